@@ -1,7 +1,7 @@
 -- What a fleet keeps beside its database: what it was asked for, its report, and the count of its faults.
 use Rattle.std.specs.Prelude.{ℕ, List, [], ◌∷◌, Option, None, if◌then◌else◌}
 use Rattle.dsql_driver.specs.Fits.{is_memory}
-use Rattle.dsql_driver.specs.Wires.{FleetTold, Plan, WirePlan, WireTold, Preferred, with_connects, with_retired, with_wire_plan}
+use Rattle.dsql_driver.specs.Wires.{FleetTold, Plan, WirePlan, WireTold, Preferred, with_connects, with_retired, with_wanted_connect, with_wire_plan}
 use Rattle.dsql_driver.specs.declared.answer.DriverAnswer.{DriverAnswer}
 use Rattle.dsql_driver.specs.declared.call.DriverCall.TheVariants.{Connect}
 use Rattle.dsql_mem_plans.specs.Faults.{faults_after}
@@ -19,7 +19,7 @@ abbrev pub new_fleet : FleetState
 new_fleet =
     record {
       preferred = record { last = None; times = 0 };
-      told = record { connects = []; plans = []; retired = [] };
+      told = record { connects = []; plans = []; retired = []; wanted = [] };
       faults = 0;
     }
 
@@ -44,9 +44,14 @@ with_connect number answer fleet =
       faults = faults_after fleet.faults answer;
     }
 
--- Returns the fleet after a Connect with this answer. It reports no Connect that it answered Memory.
+-- Returns the fleet after it answered a Connect Memory.
+abbrev pub after_want : ℕ → FleetState → FleetState
+after_want number fleet = record fleet { told = with_wanted_connect number fleet.told }
+
+-- Returns the fleet after a Connect with this answer.
 abbrev pub after_connect : ℕ → DriverAnswer → FleetState → FleetState
-after_connect number answer fleet = if is_memory answer then fleet else with_connect number answer fleet
+after_connect number answer fleet =
+    if is_memory answer then after_want number fleet else with_connect number answer fleet
 
 -- Returns the fleet after a wire was given back with this report.
 abbrev pub after_retire : ℕ → WireTold → FleetState → FleetState

@@ -5,4 +5,10 @@ use Rattle.dsql_mem_plans.specs.declared.log.Log.{Log}
 
 -- Returns what a wire with this log reports.
 abbrev pub told_of : Log → WireTold
-told_of log = record { number = log.number; calls = reverse log.heard.items; plans = log.plans.items }
+told_of log =
+    record {
+      number = log.number;
+      calls = reverse log.heard.items;
+      plans = log.plans.items;
+      wanted = reverse log.wanted.items;
+    }

@@ -1,6 +1,6 @@
 -- What a wire keeps beside its session: its report, its planned faults and their count.
 use Rattle.std.specs.Prelude.{ℕ, ◌+◌, List, [], ◌∷◌, ◌++◌, length, Option}
-use Rattle.dsql_driver.specs.Wires.{WireTold, Plan, newly_told, with_call, with_plan}
+use Rattle.dsql_driver.specs.Wires.{WireTold, Plan, newly_told, with_call, with_plan, with_wanted}
 use Rattle.dsql_driver.specs.declared.answer.DriverAnswer.{DriverAnswer}
 use Rattle.dsql_driver.specs.declared.call.DriverCall.{DriverCall}
 use Rattle.dsql_mem_plans.specs.Faults.{faults_after}
@@ -30,6 +30,10 @@ with_answer call answer log =
       planned = log.planned;
       faults = faults_after log.faults answer;
     }
+
+-- Returns the log after the wire's next call was answered Memory.
+abbrev pub with_want : DriverCall → WireLogState → WireLogState
+with_want call log = record log { told = with_wanted call log.told }
 
 -- Returns the log after one more fault was planned on its wire.
 abbrev pub with_planned : Plan → WireLogState → WireLogState

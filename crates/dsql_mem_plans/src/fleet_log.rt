@@ -1,7 +1,7 @@
 ghost use Rattle.std.specs.Prelude.{◌≡◌, ◌≤◌, None, Some, false, IfOk, IfErr, OnOk, OnErr};
 ghost use Rattle.dsql_driver.specs.Fits.{is_memory};
 ghost use Rattle.dsql_driver.specs.Wires.{answer_of, preferred_after};
-ghost use Rattle.dsql_mem_plans.specs.Fleets.{new_fleet, after_wire_plan, planned_for, connect_fault, with_connect, after_connect, after_retire};
+ghost use Rattle.dsql_mem_plans.specs.Fleets.{new_fleet, after_wire_plan, planned_for, connect_fault, with_connect, after_want, after_connect, after_retire};
 
 use crate::faults::faults_after;
 use crate::plans::{Plan, Refusal, WirePlanMade, connect_refusal, plans_for};
@@ -9,10 +9,12 @@ use crate::roll::Roll;
 use crate::wire_log::WireLog;
 use dsql_driver::{Caps, DriverAnswer, Planned, Refused};
 use dsql_value::Memory;
+use dsql_value_past::Past;
 use std::alloc::Global;
 use std::marker::Model;
 
-/// What a fleet keeps beside its database: what it was asked for, its report, and the count of its faults.
+/// What a fleet keeps beside its database: what it was asked for, its report, and the count of its faults. The Connects
+/// that were answered Memory are for proofs only.
 #[derive(Drop)]
 pub struct FleetLog {
     preferred: Option<Caps>,
@@ -20,10 +22,12 @@ pub struct FleetLog {
     connects: Vec<(u32, DriverAnswer)>,
     plans: Vec<WirePlanMade>,
     retired: Roll,
+    wanted: Past<u32>,
     faults: u64,
 }
 
 impl Model for FleetLog {
+    ghost use Rattle.std.specs.Prelude.{reverse};
     ghost use Rattle.dsql_mem_plans.specs.Fleets.{FleetState};
     ghost use Rattle.dsql_mem_plans.specs.Roll.{retired_of};
 
@@ -31,7 +35,12 @@ impl Model for FleetLog {
 
     ghost view = { λ f. record {
       preferred = record { last = f.preferred; times = f.preferences };
-      told = record { connects = f.connects.items; plans = f.plans.items; retired = retired_of f.retired };
+      told = record {
+        connects = f.connects.items;
+        plans = f.plans.items;
+        retired = retired_of f.retired;
+        wanted = reverse f.wanted.items;
+      };
       faults = f.faults;
     } };
 }
@@ -47,6 +56,7 @@ impl FleetLog {
             connects: Vec::new(alloc),
             plans: Vec::new(alloc),
             retired: Roll::Empty,
+            wanted: Past::new(),
             faults: 0,
         }
     }
@@ -76,7 +86,7 @@ impl FleetLog {
     }
 
     /// Returns what is planned for a wire that is to be opened. If a fault stands in place of its Connect, records
-    /// that Connect and fails with the fault.
+    /// that Connect and fails with the fault. Without memory it records that, and fails with it.
     pub fn admit(&mut self, alloc: Global, number: u32) -> Result<Vec<Plan>, Refused>
         ensures ok { OnOk result (self.new ≡ self.old) }
         ensures planned { IfOk result (λ plans. plans.items ≡ planned_for number self.old) }
@@ -88,16 +98,16 @@ impl FleetLog {
         ensures counted { self.old.faults ≤ self.new.faults }
     {
         let Ok(plans) = plans_for(alloc, number, self.plans.as_slice()) else {
-            return Err(Refused::Memory);
+            return Err(self.note_want(number));
         };
         match connect_refusal(plans.as_slice()) {
             Ok(None) => Ok(plans),
             Ok(Some(refusal)) => Err(self.refuse(number, refusal)),
-            Err(Memory) => Err(Refused::Memory),
+            Err(Memory) => Err(self.note_want(number)),
         }
     }
 
-    /// Records a Connect that is refused, and returns why. Without memory it records nothing and returns that.
+    /// Records a Connect that is refused, and returns why. Without memory it records that, and returns it.
     fn refuse(&mut self, number: u32, refusal: Refusal) -> Refused
         requires told { answer_of {W = Unit {0}} (Err refusal.refused) ≡ refusal.answer }
         requires answered { is_memory refusal.answer ≡ false }
@@ -108,7 +118,7 @@ impl FleetLog {
     {
         let Refusal { refused, answer } = refusal;
         if self.connects.reserve(1).is_err() {
-            return Refused::Memory;
+            return self.note_want(number);
         }
         self.faults = faults_after(self.faults, &answer);
         self.connects.push_reserved((number, answer));
@@ -122,6 +132,15 @@ impl FleetLog {
     {
         self.connects.push((number, DriverAnswer::Done))?;
         Ok(())
+    }
+
+    /// Records that a Connect is answered Memory, and returns that refusal. It takes no memory.
+    pub fn note_want(&mut self, number: u32) -> Refused
+        ensures want { result ≡ Refused.Memory }
+        ensures noted { self.new ≡ after_want number self.old }
+    {
+        self.wanted = self.wanted.then(&number);
+        Refused::Memory
     }
 
     /// Records that the fleet was given back a wire with this log. It takes no memory.

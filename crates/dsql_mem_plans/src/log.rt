@@ -1,6 +1,6 @@
 ghost use Rattle.std.specs.Prelude.{◌≡◌, ◌+◌, ◌<◌, ◌≤◌, length, OnOk, OnErr};
 ghost use Rattle.std.below.core.specs.declared.int.usize.TheConstants.{MAX};
-ghost use Rattle.dsql_driver.specs.Wires.{newly_told, with_call, with_plan};
+ghost use Rattle.dsql_driver.specs.Wires.{newly_told, with_call, with_plan, with_wanted};
 
 use crate::plans::PlanMade;
 use dsql_driver::{DriverAnswer, DriverCall, Planned};
@@ -10,13 +10,14 @@ use std::alloc::Global;
 
 /// What a wire was asked: its number, the count of driver calls that it heard, and these with their answers for
 /// proofs only. It also holds the faults that were planned on the wire, oldest first, each with the count of
-/// driver calls heard by then.
+/// driver calls heard by then. The driver calls that were answered Memory are for proofs only as well.
 #[derive(Drop)]
 pub struct Log {
     pub number: u32,
     pub count: usize,
     pub heard: Past<(DriverCall, DriverAnswer)>,
     pub plans: Vec<PlanMade>,
+    pub wanted: Past<DriverCall>,
     pub ghost counted: { (count ≡ length heard.items) × (count < MAX) },
 }
 
@@ -32,6 +33,7 @@ impl Log {
             count: 1,
             heard: Past::new().then_pair(&DriverCall::Connect, &DriverAnswer::Done),
             plans: Vec::new(alloc),
+            wanted: Past::new(),
         }
     }
 
@@ -62,6 +64,13 @@ impl Log {
     {
         self.heard = self.heard.then_pair(call, answer);
         self.count += 1;
+    }
+
+    /// Notes that the next driver call is answered Memory. It takes no memory.
+    pub fn note_want(&mut self, call: &DriverCall)
+        ensures { told_of self.new ≡ with_wanted call.now (told_of self.old) }
+    {
+        self.wanted = self.wanted.then(call);
     }
 
     /// Enters a planned fault after the driver calls that were heard so far. Fails only with `Memory`, and then

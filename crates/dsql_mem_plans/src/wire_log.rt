@@ -1,12 +1,12 @@
 ghost use Rattle.std.specs.Prelude.{◌≡◌, ◌+◌, ◌<◌, ◌≤◌, length, IfOk, OnOk, OnErr};
 ghost use Rattle.dsql_mem_plans.specs.Log.{told_of};
-ghost use Rattle.dsql_mem_plans.specs.WireLogs.{new_wire_log, fault_due, with_answer, with_planned};
+ghost use Rattle.dsql_mem_plans.specs.WireLogs.{new_wire_log, fault_due, with_answer, with_want, with_planned};
 
 use crate::faults::faults_after;
 use crate::log::Log;
 use crate::plans::{Plan, copied, fault_at};
 use crate::roll::Roll;
-use dsql_driver::{DriverAnswer, DriverCall, Planned};
+use dsql_driver::{Answered, DriverAnswer, DriverCall, Planned};
 use dsql_value::Memory;
 use std::alloc::Global;
 use std::marker::Model;
@@ -71,6 +71,19 @@ impl WireLog {
     {
         self.log.note(call, answer);
         self.faults = faults_after(self.faults, answer);
+    }
+
+    /// Notes that the next driver call is answered Memory, and returns that answer. It takes no memory.
+    pub fn note_want(&mut self, call: &DriverCall) -> Answered
+        ensures answer { result.answer ≡ DriverAnswer.Memory }
+        ensures copy { result.copy ≡ DriverAnswer.Memory }
+        ensures noted { self.new ≡ with_want call.now self.old }
+    {
+        self.log.note_want(call);
+        Answered {
+            answer: DriverAnswer::Memory,
+            copy: DriverAnswer::Memory,
+        }
     }
 
     /// Records a planned fault. It takes all the room first.
