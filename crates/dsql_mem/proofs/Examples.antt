@@ -84,6 +84,7 @@ worked_plans = record {
   replaced_on_wire = refl;
   told_behind = refl;
   too_late = refl;
+  wanted = refl;
   not_written = refl;
   still_open = refl;
   refused = refl;

@@ -10,7 +10,7 @@ use Rattle.dsql_mem_store.specs.Entries.{Entries}
 use Rattle.dsql_mem_session.specs.Session.{SessionState, IsSound, handles_of, cursors_of}
 use Rattle.dsql_mem_calls.specs.Effect.{effect_unless}
 use Rattle.dsql_mem_plans.specs.WireLogs.{WireLogState, with_answer}
-use Rattle.dsql_mem.specs.Wire.{WireState, CarriesOut, fault_in_place, after_call}
+use Rattle.dsql_mem.specs.Wire.{WireState, CarriesOut, fault_in_place, after_call, after_want}
 use Rattle.dsql_mem.proofs.PlanLemmas.{comes_of-IsLawful}
 
 -- A wire that took a call's answer and recorded it is the wire after the call.
@@ -22,12 +22,12 @@ memory-or_not : (answer : DriverAnswer) → (answer ≡ Memory) ⊎ (is_memory a
 memory-or_not Memory = inl refl
 memory-or_not _ = inr refl
 
--- Holds if the wire carried the call out with this answer, or there was no memory and it stayed as it was. Its
+-- Holds if the wire carried the call out with this answer, or there was no memory and only its report changed. Its
 -- session was sound before.
 pub record IsHeard (store : Entries) (call : DriverCall) (answer : DriverAnswer) (before after : WireState) : Type 0 where
   pub carried_out : is_memory answer ≡ false → CarriesOut store call answer before after
   pub sound : IsSound before.session
-  pub stays : is_memory answer ≡ true → after ≡ before
+  pub wants : is_memory answer ≡ true → after ≡ after_want call before
 
 pub heard-fits : (store : Entries) (call : DriverCall) (answer : DriverAnswer) (before after : WireState) → IsHeard store call answer before after → fits_of call answer ≡ true
 heard-fits store call answer before after h = elim (memory-or_not answer) [
@@ -40,8 +40,8 @@ heard-fits store call answer before after h = elim (memory-or_not answer) [
 pub heard-handles : (store : Entries) (call : DriverCall) (answer : DriverAnswer) (before after : WireState) → IsHeard store call answer before after → KeepsHandles call answer (handles_of before.session) (handles_of after.session)
 heard-handles store call answer before after h = elim (memory-or_not answer) [
   | inl e ↦
-      let stays : after ≡ before = h.stays (ap is_memory e) in
-      rw e (ap (λ (w : WireState). handles_of w.session) stays)
+      let wants : after ≡ after_want call before = h.wants (ap is_memory e) in
+      rw e (ap (λ (w : WireState). handles_of w.session) wants)
   | inr other ↦
       let law = comes_of-IsLawful store before call h.sound in
       rw ((h.carried_out other).answered, (h.carried_out other).changed) law.handles
@@ -50,8 +50,8 @@ heard-handles store call answer before after h = elim (memory-or_not answer) [
 pub heard-cursors : (store : Entries) (call : DriverCall) (answer : DriverAnswer) (before after : WireState) → IsHeard store call answer before after → KeepsCursors call answer (cursors_of before.session) (cursors_of after.session)
 heard-cursors store call answer before after h = elim (memory-or_not answer) [
   | inl e ↦
-      let stays : after ≡ before = h.stays (ap is_memory e) in
-      rw e (ap (λ (w : WireState). cursors_of w.session) stays)
+      let wants : after ≡ after_want call before = h.wants (ap is_memory e) in
+      rw e (ap (λ (w : WireState). cursors_of w.session) wants)
   | inr other ↦
       let law = comes_of-IsLawful store before call h.sound in
       rw ((h.carried_out other).answered, (h.carried_out other).changed) law.cursors

@@ -1,6 +1,6 @@
 -- The states of wires in memory, and what a fleet can do.
 use Rattle.std.specs.Prelude.{◌≡◌, ℕ, ◌+◌, true, false, List, [], ◌∷◌, ◌++◌, length, Option, unwrap_or}
-use Rattle.dsql_driver.specs.Wires.{WireTold, Plan, newly_told, with_call, with_plan}
+use Rattle.dsql_driver.specs.Wires.{WireTold, Plan, newly_told, with_call, with_plan, with_wanted}
 use Rattle.dsql_driver.specs.declared.answer.DriverAnswer.{DriverAnswer}
 use Rattle.dsql_driver.specs.declared.caps.Caps.{Caps}
 use Rattle.dsql_driver.specs.declared.call.DriverCall.{DriverCall}
@@ -47,6 +47,10 @@ pub record CarriesOut (store : Entries) (call : DriverCall) (answer : DriverAnsw
     (before after : WireState) : Type 0 where
   pub answered : answer ≡ (comes_of store before call).answer
   pub changed : after ≡ after_call store before call
+
+-- Returns the wire after a call for which there was no memory. Only its report changes.
+abbrev pub after_want : DriverCall → WireState → WireState
+after_want call wire = record wire { told = with_wanted call wire.told }
 
 -- Returns the wire after one more fault was planned on it.
 abbrev pub after_plan : Plan → WireState → WireState

@@ -7,7 +7,7 @@ use Rattle.dsql_driver.specs.declared.call.DriverCall.{DriverCall}
 use Rattle.dsql_driver.specs.declared.call.DriverCall.TheVariants.{Valid, Ping, Next, Commit, Rollback}
 use Rattle.dsql_driver.specs.declared.wire.Planned.TheVariants.{Bad, Fail, Invalid}
 use Rattle.dsql_mem_store.specs.Entries.{Entries}
-use Rattle.dsql_mem.specs.Wire.{WireState, new_wire, after_call, after_plan, comes_of}
+use Rattle.dsql_mem.specs.Wire.{WireState, new_wire, after_call, after_plan, after_want, comes_of}
 use Rattle.dsql_mem_plans.specs.Fleets.{FleetState, new_fleet, planned_for, connect_fault}
 use Rattle.dsql_mem.specs.Worked.{affected, ask, tell, begin}
 
@@ -27,7 +27,7 @@ made_first plan = (0, plan)
 
 -- Returns a fleet on which these faults were planned before any Connect.
 abbrev pub fleet_with : List WirePlan → FleetState
-fleet_with plans = record new_fleet { told = record { connects = []; plans = map made_first plans; retired = [] } }
+fleet_with plans = record new_fleet { told = record new_fleet.told { plans = map made_first plans } }
 
 pub record WorkedPlans : Type 0 where
   -- A fault stands in the place of one call, and the call after it is carried out.
@@ -50,6 +50,8 @@ pub record WorkedPlans : Type 0 where
   pub told_behind : (after_plan (2, Bad) (after_call [] (new_wire 1 []) Ping)).told.plans ≡ (2, (2, Bad)) ∷ []
   pub too_late : answers_on [] (after_plan (2, Bad) (after_call [] (new_wire 1 []) Ping)) (Ping ∷ [])
       ≡ answers.Done ∷ []
+  -- A call that was answered Memory isn't counted, so a fault for the next call still stands in its place.
+  pub wanted : answers_on [] (after_want Ping (new_wire 1 ((2, Bad) ∷ []))) (Ping ∷ []) ≡ answers.Bad ∷ []
   -- A call whose place a fault takes writes nothing.
   pub not_written :
       answers_with ((2, Bad) ∷ []) (tell (codes "SET a 1") ∷ ask (codes "GET a") ∷ Next 1 ∷ [])

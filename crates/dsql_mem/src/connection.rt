@@ -2,9 +2,9 @@ ghost use Rattle.std.specs.Prelude.{◌≡◌, ◌≤◌, true, false, if◌then
 ghost use Rattle.dsql_driver.specs.Fits.{is_memory};
 ghost use Rattle.dsql_mem_store.specs.Entries.{AreAscending};
 ghost use Rattle.dsql_mem_session.specs.Session.{IsSound};
-ghost use Rattle.dsql_mem.specs.Wire.{new_wire, comes_of, after_call, after_plan, CarriesOut};
+ghost use Rattle.dsql_mem.specs.Wire.{new_wire, comes_of, after_call, after_plan, after_want, CarriesOut};
 
-use dsql_driver::{Answered, DriverAnswer, DriverCall, Planned};
+use dsql_driver::{Answered, DriverCall, Planned};
 use dsql_mem_calls::step_unless;
 use dsql_mem_plans::{Plan, WireLog};
 use dsql_mem_session::Session;
@@ -52,14 +52,14 @@ impl Connection {
         self.session.vouch();
     }
 
-    /// Answers a call on a store. It answers Memory if there is no memory.
+    /// Answers a call on a store. It answers Memory if there is no memory, and records that.
     pub(crate) fn answer(&mut self, alloc: Global, store: &mut Store, call: &DriverCall) -> Answered
         ensures copied { result.copy ≡ result.answer }
         ensures carried_out { is_memory result.answer ≡ false
             → CarriesOut store.old call.now result.answer self.old self.new }
         ensures sound { IsSound self.old.session }
         ensures ascending { AreAscending store.old }
-        ensures stays { is_memory result.answer ≡ true → self.new ≡ self.old }
+        ensures wants { is_memory result.answer ≡ true → self.new ≡ after_want call.now self.old }
         ensures store { store.new
             ≡ (if is_memory result.answer then store.old else (comes_of store.old self.old call.now).store) }
         ensures counted { self.old.faults ≤ self.new.faults }
@@ -68,10 +68,7 @@ impl Connection {
         store.vouch();
         match self.hear(alloc, store, call) {
             Ok(answered) => answered,
-            Err(Memory) => Answered {
-                answer: DriverAnswer::Memory,
-                copy: DriverAnswer::Memory,
-            },
+            Err(Memory) => self.log.note_want(call),
         }
     }
 

@@ -4,7 +4,7 @@ ghost use Rattle.dsql_driver.specs.Streams.{HasRisen};
 ghost use Rattle.dsql_driver.specs.Wires.{told_after, with_plan, KeepsHandles, KeepsCursors};
 ghost use Rattle.dsql_mem_store.specs.Entries.{Entries, AreAscending};
 ghost use Rattle.dsql_mem_session.specs.Session.{handles_of, cursors_of};
-ghost use Rattle.dsql_mem.specs.Wire.{new_wire, after_plan, CarriesOut};
+ghost use Rattle.dsql_mem.specs.Wire.{new_wire, after_plan, after_want, CarriesOut};
 
 use crate::connection::Connection;
 use dsql_driver::{Answered, DriverCall, Planned, Wire};
@@ -86,10 +86,11 @@ impl<R: AllocGlobal + Wait + Drop> Wire for MemWire<R> {
 
         // A wire in memory promises more: its answer, and what it is afterwards. The answer is the planned
         // fault if one stands in the call's place. Otherwise it is right for some store with ascending keys. A lock
-        // tells a contract no more of the store, so the clause doesn't say which one it is.
+        // tells a contract no more of the store, so the clause doesn't say which one it is. After the answer Memory
+        // only the report of the wire has changed.
         ensures carried_out { is_memory result.answer ≡ false → (store : Entries) × AreAscending store
             × CarriesOut store call.now result.answer self.old self.new }
-        ensures stays { is_memory result.answer ≡ true → self.new ≡ self.old }
+        ensures wants { is_memory result.answer ≡ true → self.new ≡ after_want call.now self.old }
     {
         let mut store = self.store.lock(&self.rt);
         self.connection.answer(self.rt.alloc(), &mut store, call)
