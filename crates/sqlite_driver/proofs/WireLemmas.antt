@@ -9,7 +9,7 @@ use Rattle.dsql_driver.specs.declared.call.DriverCall.{DriverCall}
 use Rattle.dsql_driver.specs.declared.wire.Answered.{Answered}
 use Rattle.dsql_mem_plans.specs.Plans.{planned_at}
 use Rattle.sqlite_session.specs.Session.{SessionState, IsSound, handles_of, cursors_of}
-use Rattle.sqlite_driver.specs.Wire.{WireState, Hears}
+use Rattle.sqlite_driver.specs.Wire.{WireState, Hears, after_want}
 use Rattle.sqlite_driver.proofs.ServedLemmas.{IsLawful, ServesUnless-IsLawful}
 
 -- A call that a wire heard is answered lawfully.
@@ -22,12 +22,12 @@ memory-or_not : (answer : DriverAnswer) → (answer ≡ Memory) ⊎ (is_memory a
 memory-or_not Memory = inl refl
 memory-or_not _ = inr refl
 
--- Holds if the wire heard the call with this answer, or there was no memory and it stayed as it was. Its session was
--- sound before.
+-- Holds if the wire heard the call with this answer, or there was no memory and only its report changed. Its session
+-- was sound before.
 pub record IsHeard (call : DriverCall) (answered : Answered) (before after : WireState) : Type 0 where
   pub heard : is_memory answered.answer ≡ false → Hears call answered before after
   pub sound : IsSound before.session
-  pub stays : is_memory answered.answer ≡ true → after ≡ before
+  pub wants : is_memory answered.answer ≡ true → after ≡ after_want call before
 
 pub heard-fits : (call : DriverCall) (answered : Answered) (before after : WireState) → IsHeard call answered before after → fits_of call answered.answer ≡ true
 heard-fits call answered before after h = elim (memory-or_not answered.answer) [
@@ -38,15 +38,15 @@ heard-fits call answered before after h = elim (memory-or_not answered.answer) [
 pub heard-handles : (call : DriverCall) (answered : Answered) (before after : WireState) → IsHeard call answered before after → KeepsHandles call answered.answer (handles_of before.session) (handles_of after.session)
 heard-handles call answered before after h = elim (memory-or_not answered.answer) [
   | inl e ↦
-      let stays : after ≡ before = h.stays (ap is_memory e) in
-      rw e (ap (λ (w : WireState). handles_of w.session) stays)
+      let wants : after ≡ after_want call before = h.wants (ap is_memory e) in
+      rw e (ap (λ (w : WireState). handles_of w.session) wants)
   | inr other ↦ (Hears-IsLawful call answered before after h.sound (h.heard other)).handles
 ]
 
 pub heard-cursors : (call : DriverCall) (answered : Answered) (before after : WireState) → IsHeard call answered before after → KeepsCursors call answered.answer (cursors_of before.session) (cursors_of after.session)
 heard-cursors call answered before after h = elim (memory-or_not answered.answer) [
   | inl e ↦
-      let stays : after ≡ before = h.stays (ap is_memory e) in
-      rw e (ap (λ (w : WireState). cursors_of w.session) stays)
+      let wants : after ≡ after_want call before = h.wants (ap is_memory e) in
+      rw e (ap (λ (w : WireState). cursors_of w.session) wants)
   | inr other ↦ (Hears-IsLawful call answered before after h.sound (h.heard other)).cursors
 ]

@@ -6,7 +6,7 @@ use Rattle.dsql_driver.specs.declared.caps.Caps.{Caps}
 use Rattle.dsql_driver.specs.declared.call.DriverCall.{DriverCall}
 use Rattle.dsql_driver.specs.declared.wire.Answered.{Answered}
 use Rattle.dsql_mem_plans.specs.Fleets.{FleetState}
-use Rattle.dsql_mem_plans.specs.WireLogs.{WireLogState, new_wire_log, fault_due, with_answer, with_planned}
+use Rattle.dsql_mem_plans.specs.WireLogs.{WireLogState, new_wire_log, fault_due, with_answer, with_planned, with_want}
 use Rattle.dsql_mem_session.specs.Copies.{copies_of}
 use Rattle.sqlite_driver.specs.Served.{Serves}
 use Rattle.sqlite_session.specs.Session.{SessionState, new_session}
@@ -24,6 +24,10 @@ new_wire number planned = record { session = new_session; log = new_wire_log num
 -- Returns the wire after one more fault was planned on it.
 abbrev pub after_plan : Plan → WireState → WireState
 after_plan plan wire = record wire { log = with_planned plan wire.log }
+
+-- Returns the wire after a call for which there was no memory. Only its report changes.
+abbrev pub after_want : DriverCall → WireState → WireState
+after_want call wire = record wire { log = with_want call wire.log }
 
 -- Holds if the call had this answer, in both copies, and left this session. If a fault takes the call's place, the
 -- fault is answered and the session stays.

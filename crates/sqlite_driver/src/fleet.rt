@@ -129,11 +129,11 @@ impl<R: AllocGlobal + Wait + Clone + Drop + Send> Fleet for SqliteFleet<R> {
             Err(refused) => return Err(refused),
         };
         let Ok(wire) = SqliteWire::open(&self.rt, &self.database, number, planned) else {
-            return Err(Refused::Memory);
+            return Err(self.log.note_want(number));
         };
         match self.log.note_connected(number) {
             Ok(()) => Ok(wire),
-            Err(Memory) => Err(Refused::Memory),
+            Err(Memory) => Err(self.log.note_want(number)),
         }
     }
 

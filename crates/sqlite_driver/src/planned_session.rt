@@ -1,6 +1,6 @@
 ghost use Rattle.std.specs.Prelude.{◌≡◌, ◌≤◌, true, false, IfOk, OnOk, OnErr};
 ghost use Rattle.dsql_driver.specs.Fits.{is_memory};
-ghost use Rattle.sqlite_driver.specs.Wire.{Hears, ServesUnless, new_wire, after_plan};
+ghost use Rattle.sqlite_driver.specs.Wire.{Hears, ServesUnless, new_wire, after_plan, after_want};
 ghost use Rattle.sqlite_session.specs.Session.{IsSound};
 
 use crate::calls::carry_out;
@@ -51,7 +51,7 @@ impl PlannedSession {
         self.session.vouch();
     }
 
-    /// Answers a call. It answers Memory if there is no memory and nothing has been done.
+    /// Answers a call. It answers Memory if there is no memory and nothing has been done, and records that.
     pub(crate) fn answer(
         &mut self,
         alloc: Global,
@@ -61,16 +61,13 @@ impl PlannedSession {
         ensures copied { result.copy ≡ result.answer }
         ensures heard { is_memory result.answer ≡ false → Hears call.now result self.old self.new }
         ensures sound { IsSound self.old.session }
-        ensures stays { is_memory result.answer ≡ true → self.new ≡ self.old }
+        ensures wants { is_memory result.answer ≡ true → self.new ≡ after_want call.now self.old }
         ensures counted { self.old.log.faults ≤ self.new.log.faults }
     {
         self.vouch();
         match self.hear(alloc, database, call) {
             Ok(answered) => answered,
-            Err(Memory) => Answered {
-                answer: DriverAnswer::Memory,
-                copy: DriverAnswer::Memory,
-            },
+            Err(Memory) => self.log.note_want(call),
         }
     }
 

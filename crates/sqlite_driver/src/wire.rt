@@ -2,7 +2,7 @@ ghost use Rattle.std.specs.Prelude.{◌≡◌, ◌≤◌, Some, true, false, IfO
 ghost use Rattle.dsql_driver.specs.Fits.{fits_of, is_fault, is_memory};
 ghost use Rattle.dsql_driver.specs.Streams.{HasRisen};
 ghost use Rattle.dsql_driver.specs.Wires.{told_after, with_plan, KeepsHandles, KeepsCursors};
-ghost use Rattle.sqlite_driver.specs.Wire.{Hears, new_wire, after_plan};
+ghost use Rattle.sqlite_driver.specs.Wire.{Hears, new_wire, after_plan, after_want};
 ghost use Rattle.sqlite_session.specs.Session.{handles_of, cursors_of};
 
 use crate::database::Database;
@@ -82,9 +82,10 @@ impl<R: AllocGlobal + Wait + Drop> Wire for SqliteWire<R> {
         ensures faultless { is_fault result.answer ≡ false → self.new.log.faults ≡ self.old.log.faults }
 
         // A wire of SQLite promises more: which answers it may have, and what it is afterwards. What the database does
-        // isn't said, because other wires write to it too.
+        // isn't said, because other wires write to it too. After the answer Memory only the report of the wire has
+        // changed.
         ensures heard { is_memory result.answer ≡ false → Hears call.now result self.old self.new }
-        ensures stays { is_memory result.answer ≡ true → self.new ≡ self.old }
+        ensures wants { is_memory result.answer ≡ true → self.new ≡ after_want call.now self.old }
     {
         let mut database = self.database.lock(&self.rt);
         self.session.answer(self.rt.alloc(), &mut database, call)

@@ -7,7 +7,7 @@ use Rattle.sqlite_driver.proofs.planned_session.PlannedSession.answer.Goals as g
 pub returns-in-Ok-clause-copied : goal.returns-in-Ok-clause-copied
 returns-in-Ok-clause-copied c = ServesUnless-copied _ _ _ _ _ c.in-Ok.ensures.heard.served
 
-pub returns-in-Ok-clause-stays : goal.returns-in-Ok-clause-stays
-returns-in-Ok-clause-stays c = λ memory.
+pub returns-in-Ok-clause-wants : goal.returns-in-Ok-clause-wants
+returns-in-Ok-clause-wants c = λ memory.
     let law = Hears-IsLawful _ _ _ _ c.vouch.ensures c.in-Ok.ensures.heard in
     absurd (false≢true (sym law.answered ∙ memory))

@@ -4,14 +4,14 @@ use Rattle.sqlite_driver.proofs.wire.SqliteWireWire.call.Goals as goal
 pub returns-clause-fitting : goal.returns-clause-fitting
 returns-clause-fitting g c =
     let h = c.answer.ensures in
-    heard-fits _ _ _ _ (record { heard = h.heard; sound = h.sound; stays = h.stays })
+    heard-fits _ _ _ _ (record { heard = h.heard; sound = h.sound; wants = h.wants })
 
 pub returns-clause-handles : goal.returns-clause-handles
 returns-clause-handles g c =
     let h = c.answer.ensures in
-    rw (← c.self.view_is) (heard-handles _ _ _ _ (record { heard = h.heard; sound = h.sound; stays = h.stays }))
+    rw (← c.self.view_is) (heard-handles _ _ _ _ (record { heard = h.heard; sound = h.sound; wants = h.wants }))
 
 pub returns-clause-cursors : goal.returns-clause-cursors
 returns-clause-cursors g c =
     let h = c.answer.ensures in
-    rw (← c.self.view_is) (heard-cursors _ _ _ _ (record { heard = h.heard; sound = h.sound; stays = h.stays }))
+    rw (← c.self.view_is) (heard-cursors _ _ _ _ (record { heard = h.heard; sound = h.sound; wants = h.wants }))
