@@ -1,4 +1,4 @@
-ghost use Rattle.std.specs.Prelude.{◌≡◌, ◌+◌, ◌≤◌, ◌∷◌, ◌↔◌, [], IsTrue, OnOk, OnErr, IfErr};
+ghost use Rattle.std.specs.Prelude.{◌≡◌, ◌+◌, ◌<◌, ◌≤◌, ◌∷◌, ◌↔◌, [], IsTrue, OnOk, OnErr, IfErr};
 ghost use Rattle.dsql_tenure_journal.specs.Journal.{is_whole};
 ghost use Rattle.dsql_tenure.specs.Beginnings.{IsBeginningOf};
 
@@ -84,9 +84,11 @@ impl Judge {
         self.tables.refused || self.tables.shut
     }
 
-    /// Takes memory for this many more entries. If it returns `Ok`, the judge has room for them.
+    /// Takes memory for this many more entries, unless there is enough. If it returns `Ok`, the judge has room for
+    /// them.
     pub fn reserve(&mut self, calls: u32) -> Result<(), Memory>
         ensures ok { OnOk result (calls ≤ self.new.spare) }
+        ensures full { OnErr result (self.old.spare < calls) }
         ensures journal { self.new.journal ≡ self.old.journal }
         ensures conn { self.new.conn ≡ self.old.conn }
         ensures spare { self.old.spare ≤ self.new.spare }
