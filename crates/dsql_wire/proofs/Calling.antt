@@ -1,13 +1,16 @@
--- Driver calls that fail: a failure says nothing about the answer's type, so it carries over from one type to
--- another.
-use Rattle.std.proofs.Common.{◌≡◌, refl, ap, subst, Result, Ok, Err}
+-- Driver calls that fail, and wires whose entries are kept. A failure says nothing about the answer's type, so it
+-- carries over from one type to another. Only a wire's room depends on whether the entries are kept.
+use Rattle.std.proofs.Common.{◌≡◌, ℕ, Option, inl, inr, refl, ap, subst, Result, Ok, Err}
 use Rattle.std.proofs.Math.Nat.{le_refl}
 use Rattle.std.specs.Result.{IsErrOf}
+use native.Mathlib.Omega.{arith}
+use Rattle.dsql_driver.specs.Wires.{WireTold}
+use Rattle.dsql_driver.specs.declared.call.DriverCall.{DriverCall}
 use Rattle.dsql_driver.specs.declared.wire.Wire.{Ghosts}
 use Rattle.dsql_tenure_journal.specs.declared.entry.Entry.{Entry}
 use Rattle.dsql_tenure_journal.specs.declared.entry.Permit.{Permit}
-use Rattle.dsql_wire.specs.Calling.{Calls}
-use Rattle.dsql_wire.specs.Journaled.{Journaled, MayBeSent}
+use Rattle.dsql_wire.specs.Calling.{Calls, WantsMemory}
+use Rattle.dsql_wire.specs.Journaled.{Journaled, MayBeSent, keeping}
 use Rattle.dsql_wire.specs.declared.fault.WireFault.{WireFault}
 use Rattle.dsql_wire.specs.declared.fault.WireFault.TheVariants.{Stray}
 
@@ -24,7 +27,8 @@ refused f wire p old may_not = record {
   untouched = λ it. refl;
   memory = λ it. cc;
   err = refl;
-  untold = refl;
+  wants = λ it. cc;
+  spare = omega arith;
   conn = refl;
   counted = le_refl _;
   caused = tt;
@@ -42,10 +46,16 @@ same_fault : {A B : Type 0} (fault other : WireFault) → IsErrOf {T = B} {E = W
 unfolding fault_or
 same_fault fault other is = ap Err (ap (fault_or fault) is)
 
--- A call that failed meets the contract of a failed call whatever the type of its answer is.
-pub failed : {A B W : Type 0} (f : A → Entry) (g : B → Entry) (wire : Ghosts W) (p : Permit) (old was new : Journaled W) (fault : WireFault) → was ≡ old → Calls f wire p was new (Err fault) → Calls g wire p old new (Err fault)
-failed f g wire p old was new fault same calls =
-    subst (λ (j : Journaled _). Calls g wire p j new (Err fault)) same (record {
+-- A call may want memory if there is no room, whatever room there was.
+wants_anyway : (call : DriverCall) (spare : ℕ) (before after : Option WireTold) → WantsMemory call spare before after → WantsMemory call 0 before after
+wants_anyway call spare before after h = elim h [ inl asked ↦ inl asked | inr full ↦ inr (refl, full.1) ]
+
+-- A call that failed on a wire meets the contract of a failed call if the wire's entries are kept, whatever the type of
+-- its answer is.
+pub failed : {A B W : Type 0} (f : A → Entry) (g : B → Entry) (wire : Ghosts W) (p : Permit) (old thin new : Journaled W) (fault : WireFault) → keeping thin ≡ old → Calls f wire p thin new (Err fault)
+    → Calls g wire p old (keeping new) (Err fault)
+failed f g wire p old thin new fault same calls =
+    subst (λ (j : Journaled _). Calls g wire p j (keeping new) (Err fault)) same (record {
       entry = tt;
       fits = tt;
       noted = tt;
@@ -53,10 +63,11 @@ failed f g wire p old was new fault same calls =
       ok = tt;
       handed_back = calls.handed_back;
       stray = λ it. calls.stray (same_fault _ _ it);
-      untouched = λ it. calls.untouched (same_fault _ _ it);
+      untouched = λ it. ap (λ (j : Journaled _). keeping j) (calls.untouched (same_fault _ _ it));
       memory = λ it. calls.memory (same_fault _ _ it);
       err = calls.err;
-      untold = calls.untold;
+      wants = λ it. wants_anyway p.call thin.spare (wire.told thin.wire) (wire.told new.wire) (calls.wants (same_fault _ _ it));
+      spare = omega arith;
       conn = calls.conn;
       counted = calls.counted;
       caused = tt;

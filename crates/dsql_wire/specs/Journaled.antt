@@ -13,12 +13,18 @@ use Rattle.dsql_wire.specs.Told.{TellsOf}
 use Rattle.dsql_wire.specs.declared.fault.WireFault.{WireFault}
 use Rattle.dsql_wire.specs.declared.fault.WireFault.TheVariants.{Stray, Memory}
 
--- A wire with its journal: the connection's number, the connection's journal with the newest entry first, and
--- the driver's wire.
+-- A wire with its journal: the connection's number, the connection's journal with the newest entry first, for how many
+-- entries there is memory, and the driver's wire.
 pub record Journaled (W : Type 0) : Type 0 where
   pub conn : ℕ
   pub journal : List Entry
+  pub spare : ℕ
   pub wire : W
+
+-- Returns what contracts see of this wire if its entries are kept. Each entry then takes memory of its own, so there is
+-- none for the next one.
+abbrev pub keeping : {W : Type 0} → Journaled W → Journaled W
+keeping wire = record wire { spare = 0 }
 
 -- Holds if the judge of this connection and this journal lets the permit be sent, however much room the judge
 -- has.

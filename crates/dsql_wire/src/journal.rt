@@ -1,4 +1,4 @@
-ghost use Rattle.std.specs.Prelude.{◌≡◌, ◌<◌, ◌∷◌, ◌↔◌, [], IsTrue, OnOk};
+ghost use Rattle.std.specs.Prelude.{◌≡◌, ◌+◌, ◌<◌, ◌≤◌, ◌∷◌, ◌↔◌, [], IsTrue, OnOk, OnErr};
 ghost use Rattle.dsql_tenure.specs.Beginnings.{IsBeginningOf};
 
 use dsql_tenure::Judge;
@@ -48,9 +48,11 @@ impl JudgedJournal {
         self.judge.may_send(permit)
     }
 
-    /// Takes all the memory for one entry.
+    /// Takes all the memory for one entry, unless there is enough.
     pub(crate) fn make_room(&mut self) -> Result<(), Memory>
         ensures room { OnOk result (0 < self.new.spare) }
+        ensures full { OnErr result (self.old.spare ≡ 0) }
+        ensures spare { self.old.spare ≤ self.new.spare }
         ensures journal { self.new.journal ≡ self.old.journal }
         ensures conn { self.new.conn ≡ self.old.conn }
     {
@@ -61,6 +63,7 @@ impl JudgedJournal {
     pub(crate) fn note(&mut self, entry: &Entry)
         requires follows { IsBeginningOf self.old.conn (entry.now ∷ self.old.journal) }
         requires room { 0 < self.old.spare }
+        ensures spare { self.old.spare ≤ self.new.spare + 1 }
         ensures journal { self.new.journal ≡ entry.now ∷ self.old.journal }
         ensures conn { self.new.conn ≡ self.old.conn }
     {

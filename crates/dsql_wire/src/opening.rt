@@ -1,6 +1,7 @@
-ghost use Rattle.std.specs.Prelude.{◌≡◌, ◌<◌, ◌∷◌, [], vec_capacity, vec_len, IfSome};
+ghost use Rattle.std.specs.Prelude.{◌≡◌, ◌<◌, ◌∷◌, [], option_map, vec_capacity, vec_len, IfSome};
 ghost use Rattle.dsql_tenure.specs.Judged.{answered as entry_of};
 ghost use Rattle.dsql_wire.specs.Calling.{Opens};
+ghost use Rattle.dsql_wire.specs.Journaled.{keeping};
 
 use crate::fault::WireFault;
 use crate::heard::Heard;
@@ -64,7 +65,7 @@ fn keep<W: Wire>(
     requires empty { entries.items ≡ [] }
     requires room { vec_len entries < vec_capacity entries }
     requires noted { IfSome wire (λ w. w.journal ≡ entry_of noted DriverAnswer.Done ∷ []) }
-    ensures { result ≡ wire }
+    ensures { result ≡ option_map keeping wire }
 {
     let mut entries = entries;
     match wire {

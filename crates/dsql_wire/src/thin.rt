@@ -15,8 +15,8 @@ use dsql_value::Memory;
 use std::marker::Model;
 
 /// A driver's wire with its connection's judge. The journal isn't kept: only proofs read it. Contracts see the
-/// connection's number, the journal with the newest entry first, and the driver's wire. A thin wire can't be
-/// dropped; it must be retired.
+/// connection's number, the journal with the newest entry first, for how many entries the judge has memory, and the
+/// driver's wire. A thin wire can't be dropped; it must be retired.
 pub struct ThinWire<W: Wire> {
     wire: W,
     journal: JudgedJournal,
@@ -27,7 +27,12 @@ impl<W: Wire> Model for ThinWire<W> {
 
     ghost Value = { Journaled W };
 
-    ghost view = { λ t. record { conn = t.journal.conn; journal = t.journal.journal; wire = t.wire } };
+    ghost view = { λ t. record {
+      conn = t.journal.conn;
+      journal = t.journal.journal;
+      spare = t.journal.spare;
+      wire = t.wire;
+    } };
 
     ghost invariant = { λ t. Agrees (W.told t.wire) (W.handles t.wire)
         (W.cursors t.wire) t.journal.conn t.journal.journal };
@@ -52,6 +57,7 @@ impl<W: Wire> ThinWire<W> {
         requires { Agrees (W.told wire) (W.handles wire) (W.cursors wire) journal.conn journal.journal }
         ensures conn { result.conn ≡ journal.conn }
         ensures journal { result.journal ≡ journal.journal }
+        ensures spare { result.spare ≡ journal.spare }
         ensures wire { result.wire ≡ wire }
     {
         ThinWire { wire, journal }
@@ -64,7 +70,8 @@ impl<W: Wire> ThinWire<W> {
         self.journal.may_send(permit)
     }
 
-    /// Makes one driver call that may be sent, and has the judge record the entry that its answer makes.
+    /// Makes one driver call that may be sent, and has the judge record the entry that its answer makes. The driver is
+    /// called once at most.
     pub(crate) fn call(&mut self, permit: Permit) -> Result<HeardTwice, WireFault>
         requires { MayBeSent self.old.conn self.old.journal permit }
         ensures calls { Calls (λ (it : HeardTwice). it.heard) W.Wire permit self.old self.new result }
@@ -86,7 +93,8 @@ impl<W: Wire> ThinWire<W> {
     }
 
     /// Makes one driver call if the journal's judge allows it, and has the judge record the entry that its
-    /// answer makes. Fails with `Stray` if the judge doesn't allow it, and with `Memory` if there is no memory.
+    /// answer makes. Fails with `Stray` if the judge doesn't allow it. Fails with `Memory` if the driver answers
+    /// Memory, or if the judge has no room for an entry and finds no memory for it.
     pub fn perform(&mut self, permit: Permit) -> Result<Heard, WireFault>
         ensures { Calls (λ heard. heard) W.Wire permit self.old self.new result }
     {

@@ -2,6 +2,7 @@ ghost use Rattle.std.specs.Prelude.{◌≡◌, ◌<◌, false, reverse, vec_capa
 ghost use Rattle.dsql_tenure_journal.specs.Readers.{is_empty};
 ghost use Rattle.dsql_tenure.specs.Beginnings.{IsBeginningOf};
 ghost use Rattle.dsql_wire.specs.Calling.{Calls, PlansFault};
+ghost use Rattle.dsql_wire.specs.Journaled.{keeping};
 ghost use Rattle.dsql_wire.specs.Told.{TellsOf};
 
 use crate::fault::WireFault;
@@ -14,8 +15,8 @@ use dsql_value::Memory;
 use std::marker::Model;
 
 /// A driver's wire with its connection's journal, which is kept. Contracts see the connection's number, the
-/// journal with the newest entry first, and the driver's wire. A journaled wire can't be dropped; it must be
-/// retired.
+/// journal with the newest entry first, and the driver's wire. They see no room, since each entry takes memory for a
+/// copy of its permit. A journaled wire can't be dropped; it must be retired.
 pub struct JournaledWire<W: Wire> {
     thin: ThinWire<W>,
     entries: Vec<Entry>,
@@ -23,11 +24,11 @@ pub struct JournaledWire<W: Wire> {
 
 impl<W: Wire> Model for JournaledWire<W> {
     ghost use Rattle.std.specs.Prelude.{◌≡◌, reverse};
-    ghost use Rattle.dsql_wire.specs.Journaled.{Journaled};
+    ghost use Rattle.dsql_wire.specs.Journaled.{Journaled, keeping};
 
     ghost Value = { Journaled W };
 
-    ghost view = { λ j. j.thin };
+    ghost view = { λ j. keeping j.thin };
 
     ghost invariant = { λ j. j.thin.journal ≡ reverse j.entries.items };
 }
@@ -44,7 +45,7 @@ impl<W: Wire> JournaledWire<W> {
     /// Returns the wire of a connection that has exactly these entries, oldest first.
     pub(crate) fn of(thin: ThinWire<W>, entries: Vec<Entry>) -> JournaledWire<W>
         requires { thin.journal ≡ reverse entries.items }
-        ensures { result ≡ thin }
+        ensures { result ≡ keeping thin }
     {
         JournaledWire { thin, entries }
     }

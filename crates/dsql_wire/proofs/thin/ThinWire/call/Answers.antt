@@ -1,4 +1,5 @@
 use Rattle.std.proofs.Common.{◌≡◌, ◌∷◌, true, false, refl, sym, ◌∙◌, ap, subst}
+use native.Mathlib.Omega.{arith}
 use Rattle.dsql_driver.specs.Fits.{is_memory, is_fault}
 use Rattle.dsql_driver.specs.Streams.{HasRisen}
 use Rattle.dsql_driver.specs.Wires.{told_after}
@@ -52,7 +53,8 @@ returns-clause-calls g c =
       untouched = λ it. cc;
       memory = λ it. cc;
       err = tt;
-      untold = tt;
+      wants = λ it. cc;
+      spare = let is : c.self.inside.journal.spare ≡ c.args.self.now.spare = ap (λ (j : Journaled _). j.spare) c.self.view_is in omega (arith, c.make_room.ensures.spare, c.note.ensures.spare);
       conn = c.note.ensures.conn ∙ c.make_room.ensures.conn ∙ ap (λ (j : Journaled _). j.conn) c.self.view_is;
       counted = rw (← c.self.view_is) w.counted;
       caused = λ fault. subst (λ (j : Journaled _). HasRisen (g.W.Wire.faults j.wire) (g.W.Wire.faults c.call-answer.new.self)) c.self.view_is (w.caused (ap is_fault (sym made.answer) ∙ fault));
