@@ -19,7 +19,7 @@ use Rattle.dsql_engine_hearing.specs.history.Rules.Line.{is_used}
 use Rattle.dsql_engine_hearing.specs.history.Legal.{Lawful}
 use Rattle.dsql_engine_hearing.specs.laws.OwedMade.{with_moves}
 use Rattle.dsql_engine_hearing.proofs.laws.Tests.{both, together}
-use Rattle.dsql_engine_hearing.proofs.laws_calls.Lists.{has_push}
+use Rattle.dsql_engine_hearing.proofs.laws_work.Rows.{has_push}
 use Rattle.dsql_engine_hearing.proofs.laws_calls.Stays.{as_many}
 use Rattle.dsql_engine_hearing.proofs.desk.Known.{unfinished_known}
 use Rattle.dsql_engine_hearing.proofs.desk.Moves.{leaves}

@@ -16,7 +16,7 @@ use Rattle.dsql_laws_calls.specs.history.Legal.{Lawful}
 use Rattle.dsql_laws_calls.specs.laws.OwedMade.{with_moves}
 use Rattle.dsql_laws_calls.proofs.laws.Tests.{both, other_number, same_itself}
 use Rattle.dsql_laws_calls.specs.Bounds.{most_moves}
-use Rattle.dsql_laws_calls.proofs.Lists.{has_push}
+use Rattle.dsql_laws_calls.proofs.laws_work.Rows.{has_push}
 use Rattle.dsql_laws_calls.proofs.Owed.{few_next}
 use Rattle.dsql_laws_ends.proofs.Whose.{unfinished_entered}
 use Rattle.dsql_engine_pooling.specs.UnderWay.{UnderWay}

@@ -1,5 +1,6 @@
 pub use Rattle.dsql_engine_going.proofs.journal as journal
 pub use Rattle.dsql_engine_going.proofs.pool as pool
+pub use Rattle.dsql_engine_going.proofs.laws_work as laws_work
 pub use Rattle.dsql_engine_going.proofs.laws as laws
 pub use Rattle.dsql_engine_going.proofs.laws_calls as laws_calls
 pub use Rattle.dsql_engine_going.proofs.laws_callers as laws_callers

@@ -15,7 +15,7 @@ use Rattle.dsql_engine_hearing.proofs.laws.Numbered.{unfinished_from_one}
 use Rattle.dsql_engine_hearing.proofs.laws.Places.{neither}
 use Rattle.dsql_engine_hearing.proofs.laws.Tests.{both, same_number, together}
 use Rattle.dsql_engine_hearing.proofs.laws_calls.BeginningsAt.{is_answer}
-use Rattle.dsql_engine_hearing.proofs.laws_calls.Lists.{same_or_not}
+use Rattle.dsql_engine_hearing.proofs.laws_work.Rows.{same_or_not}
 use Rattle.dsql_engine_hearing.proofs.laws_calls.Stays.{as_many}
 use Rattle.dsql_engine_hearing.proofs.laws_calls.Works.{enters_next, enters_unfinished, old_unfinished, stays_unfinished, still_unfinished}
 use Rattle.dsql_engine_hearing.specs.going.Stepping.{are_of_unfinished}

@@ -1,4 +1,5 @@
 pub use Rattle.dsql_engine_hearing.proofs.journal as journal
+pub use Rattle.dsql_engine_hearing.proofs.laws_work as laws_work
 pub use Rattle.dsql_engine_hearing.proofs.laws as laws
 pub use Rattle.dsql_engine_hearing.proofs.laws_calls as laws_calls
 pub use Rattle.dsql_engine_hearing.proofs.laws_steps as laws_steps

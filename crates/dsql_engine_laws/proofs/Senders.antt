@@ -11,7 +11,7 @@ use Rattle.dsql_engine_hearing.specs.pool.Calls.{wants}
 use Rattle.dsql_engine_hearing.specs.history.Rules.Wishes.{newest_sender}
 use Rattle.dsql_engine_hearing.proofs.laws.Tests.{other_number, same_number}
 use Rattle.dsql_engine_hearing.proofs.laws.Wanted.{none_wanted}
-use Rattle.dsql_engine_hearing.proofs.laws_calls.Lists.{same_or_not}
+use Rattle.dsql_engine_hearing.proofs.laws_work.Rows.{same_or_not}
 use Rattle.dsql_engine_hearing.specs.history.declared.event.Event.{Event}
 use Rattle.dsql_engine_hearing.specs.history.declared.event.Event.TheVariants.{Heard}
 use Rattle.dsql_engine_hearing.specs.history.Readers.Calls.{site}

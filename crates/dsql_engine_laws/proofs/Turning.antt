@@ -26,7 +26,7 @@ use Rattle.dsql_engine_hearing.proofs.laws.Numbered.{unfinished_from_one}
 use Rattle.dsql_engine_hearing.proofs.laws.Standing.{stands_sending}
 use Rattle.dsql_engine_hearing.proofs.laws.Tests.{other_number, same_itself, together}
 use Rattle.dsql_engine_hearing.proofs.laws.Welcome.{due_may_come}
-use Rattle.dsql_engine_hearing.proofs.laws_calls.Lists.{same_or_not}
+use Rattle.dsql_engine_hearing.proofs.laws_work.Rows.{same_or_not}
 use Rattle.dsql_engine_hearing.specs.exchanged.Filled.{Carries}
 use Rattle.dsql_engine_hearing.proofs.going.Carried.{permit_carried}
 use Rattle.dsql_engine_hearing.specs.going.Answers.{sends_unless, why_blocked}

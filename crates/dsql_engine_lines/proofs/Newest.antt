@@ -6,9 +6,8 @@ use Rattle.dsql_laws_calls.specs.journal.declared.entry.Entry.{Entry}
 use Rattle.dsql_laws_calls.specs.pool.declared.conn.Place.TheVariants.{Lent}
 use Rattle.dsql_laws_calls.specs.pool.Places.{conn_of}
 use Rattle.dsql_laws_calls.proofs.laws.Tests.{other_number, same_itself}
-use Rattle.dsql_laws_calls.proofs.Lists.{read_set, row_new, row_off, row_old}
 use Rattle.dsql_laws_calls.proofs.Stays.{as_many}
-use Rattle.dsql_laws_calls.proofs.laws_work.Rows.{same_or_not}
+use Rattle.dsql_laws_calls.proofs.laws_work.Rows.{same_or_not, read_set, row_new, row_off, row_old}
 use Rattle.dsql_laws_calls.specs.history.declared.event.Event.{Event}
 use Rattle.dsql_laws_calls.specs.history.declared.event.Event.TheVariants.{Entered, Heard}
 use Rattle.dsql_laws_calls.specs.history.declared.event.Op.{Op}

@@ -12,7 +12,7 @@ use Rattle.dsql_laws_calls.specs.pool.declared.moves.Move.TheVariants.{OpenStart
 use Rattle.dsql_laws_calls.specs.history.Readers.Tries.{with_try, lost, asks_again, newest_answer, tries, loses}
 use Rattle.dsql_laws_calls.specs.history.declared.record.Try.TheVariants.{Served, Refused}
 use Rattle.dsql_laws_calls.proofs.laws.Tests.{both, other_number}
-use Rattle.dsql_laws_calls.proofs.Lists.{same_or_not}
+use Rattle.dsql_laws_calls.proofs.laws_work.Rows.{same_or_not}
 use Rattle.dsql_laws_calls.specs.history.declared.event.Event.{Event}
 use Rattle.dsql_laws_calls.specs.history.declared.event.Event.TheVariants.{Run, Entered, Heard, Pool, Waits, Ticked, SetLimit, Replied, Ended}
 use Rattle.dsql_laws_calls.specs.history.declared.event.Op.{Op}

@@ -18,7 +18,7 @@ use Rattle.dsql_laws_calls.specs.pool.declared.conn.Place.TheVariants.{Lent}
 use Rattle.dsql_laws_calls.specs.history.Readers.HandedOut.{fetched, born, is_late, handed_out, rows_heard, rows_by}
 use Rattle.dsql_laws_calls.specs.history.Readers.Tries.{lost, tries, loses}
 use Rattle.dsql_laws_calls.proofs.laws.Tests.{other_number}
-use Rattle.dsql_laws_calls.proofs.Lists.{same_or_not}
+use Rattle.dsql_laws_calls.proofs.laws_work.Rows.{same_or_not}
 use Rattle.dsql_laws_calls.specs.history.declared.event.Event.{Event}
 use Rattle.dsql_laws_calls.specs.history.declared.event.Event.TheVariants.{Heard}
 use Rattle.dsql_laws_calls.specs.history.declared.work.Scope.{Scope}

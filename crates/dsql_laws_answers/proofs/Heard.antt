@@ -8,7 +8,7 @@ use Rattle.dsql_laws_calls.specs.pool.declared.conn.Place.{Place}
 use Rattle.dsql_laws_calls.specs.pool.declared.conn.Place.TheVariants.{Lent}
 use Rattle.dsql_laws_calls.specs.pool.Places.{conn_of}
 use Rattle.dsql_laws_calls.proofs.Found.{place_in}
-use Rattle.dsql_laws_calls.proofs.Lists.{same_or_not}
+use Rattle.dsql_laws_calls.proofs.laws_work.Rows.{same_or_not}
 use Rattle.dsql_laws_others.proofs.Once.{all_found}
 use Rattle.dsql_laws_others.proofs.Leaves.{lent_used}
 use Rattle.dsql_laws_calls.specs.history.declared.event.Event.{Event}

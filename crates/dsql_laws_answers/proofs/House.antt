@@ -27,7 +27,7 @@ use Rattle.dsql_laws_calls.proofs.laws.Tests.{other_number}
 use Rattle.dsql_laws_calls.proofs.laws.Wanted.{wanted}
 use Rattle.dsql_laws_others.proofs.Lends.{still_waits, lent_some}
 use Rattle.dsql_laws_calls.proofs.Found.{place_in, changed_place, changed_off, gone_at, gone_off}
-use Rattle.dsql_laws_calls.proofs.Lists.{same_or_not}
+use Rattle.dsql_laws_calls.proofs.laws_work.Rows.{same_or_not}
 use Rattle.dsql_laws_calls.specs.history.declared.event.Event.{Event}
 use Rattle.dsql_laws_calls.specs.history.declared.event.Event.TheVariants.{Heard, Pool}
 use Rattle.dsql_laws_calls.specs.history.Readers.Pool.{pool, place}

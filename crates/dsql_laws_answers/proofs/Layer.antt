@@ -20,8 +20,7 @@ use Rattle.dsql_laws_calls.specs.history.Readers.HandedOut.{live, handed_out, ro
 use Rattle.dsql_laws_calls.specs.history.Readers.Pool.{pool, place, home}
 use Rattle.dsql_laws_calls.specs.history.Readers.Tries.{lost, try_number, tries, loses, tries_again}
 use Rattle.dsql_laws_calls.proofs.laws.Tests.{both, same_number, other_number}
-use Rattle.dsql_laws_calls.proofs.Lists.{same_or_not}
-use Rattle.dsql_laws_calls.proofs.laws_work.Rows.{row_at}
+use Rattle.dsql_laws_calls.proofs.laws_work.Rows.{row_at, same_or_not}
 use Rattle.dsql_laws_calls.specs.history.declared.event.Event.{Event}
 use Rattle.dsql_laws_calls.specs.history.declared.event.Event.TheVariants.{Heard}
 use Rattle.dsql_laws_calls.specs.history.declared.record.CallRecord.{CallRecord}

@@ -11,7 +11,7 @@ use Rattle.dsql_laws_calls.specs.history.declared.record.Try.{Try}
 use Rattle.dsql_laws_calls.specs.history.declared.record.Try.TheVariants.{Served, Refused}
 use Rattle.dsql_laws_calls.specs.history.Readers.Tries.{with_try, lost, was_served, newest_answer, is_tried, tries, loses}
 use Rattle.dsql_laws_calls.proofs.laws.Tests.{both, other_number, same_itself, same_number}
-use Rattle.dsql_laws_calls.proofs.Lists.{same_or_not}
+use Rattle.dsql_laws_calls.proofs.laws_work.Rows.{same_or_not}
 use Rattle.dsql_laws_calls.specs.history.declared.event.Event.{Event}
 use Rattle.dsql_laws_calls.specs.history.declared.event.Event.TheVariants.{Heard, Pool}
 use Rattle.dsql_laws_calls.specs.history.Readers.Journals.{journal}

@@ -21,7 +21,7 @@ use Rattle.dsql_laws_calls.specs.history.Readers.Pool.{smallest, is_home, pool, 
 use Rattle.dsql_laws_calls.specs.history.Readers.Tries.{asks_again, was_served, tries}
 use Rattle.dsql_laws_calls.proofs.laws.Truths.{or_first, or_second}
 use Rattle.dsql_laws_calls.proofs.laws.Tests.{both, other_number, same_itself}
-use Rattle.dsql_laws_calls.proofs.Lists.{same_or_not}
+use Rattle.dsql_laws_calls.proofs.laws_work.Rows.{same_or_not}
 use Rattle.dsql_laws_others.proofs.Once.{found_some}
 use Rattle.dsql_laws_others.proofs.Settling.{somewhere, each_stands}
 use Rattle.dsql_laws_calls.specs.history.declared.event.Event.{Event}

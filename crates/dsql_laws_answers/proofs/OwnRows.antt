@@ -33,7 +33,7 @@ use Rattle.dsql_laws_calls.proofs.laws_work.HandedLines.{SentOver, due_over, is_
 use Rattle.dsql_laws_calls.proofs.laws_work.MadeLines.{MadeAt}
 use Rattle.dsql_laws_calls.specs.history.Readers.HandedOut.{live, over, fetched, handed_out, rows_heard, rows_by, are_live}
 use Rattle.dsql_laws_calls.proofs.laws.Tests.{both}
-use Rattle.dsql_laws_calls.proofs.Lists.{same_or_not}
+use Rattle.dsql_laws_calls.proofs.laws_work.Rows.{same_or_not}
 use Rattle.dsql_laws_calls.specs.history.declared.event.Event.{Event}
 use Rattle.dsql_laws_calls.specs.history.declared.event.Event.TheVariants.{Run, Entered, Heard, Pool, Waits, Ticked, SetLimit, Replied, Ended}
 use Rattle.dsql_laws_calls.specs.history.declared.work.Work.{Work}

@@ -12,7 +12,7 @@ use Rattle.dsql_laws_calls.specs.pool.declared.conn.Place.TheVariants.{Lent}
 use Rattle.dsql_laws_calls.specs.pool.Places.{is_lent}
 use Rattle.dsql_laws_calls.specs.history.Rules.Wishes.{newest_sender}
 use Rattle.dsql_laws_calls.proofs.laws.Tests.{both, other_number, same_number}
-use Rattle.dsql_laws_calls.proofs.Lists.{same_or_not}
+use Rattle.dsql_laws_calls.proofs.laws_work.Rows.{same_or_not}
 use Rattle.dsql_laws_calls.specs.history.declared.event.Event.{Event}
 use Rattle.dsql_laws_calls.specs.history.declared.event.Event.TheVariants.{Heard}
 use Rattle.dsql_laws_calls.specs.history.Readers.Calls.{site, decided}

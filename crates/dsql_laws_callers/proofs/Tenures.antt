@@ -14,7 +14,7 @@ use Rattle.dsql_laws_calls.proofs.pool.Found.{KeepsNumber, found_changed}
 use Rattle.dsql_laws_calls.proofs.pool.Placed.{found_map}
 use Rattle.dsql_laws_calls.proofs.pool.Rows.{has_number}
 use Rattle.dsql_laws_calls.proofs.Found.{place_in, changed_off, gone_at, gone_off, begun_off}
-use Rattle.dsql_laws_calls.proofs.Lists.{same_or_not}
+use Rattle.dsql_laws_calls.proofs.laws_work.Rows.{same_or_not}
 use Rattle.dsql_laws_calls.specs.history.declared.event.Event.{Event}
 use Rattle.dsql_laws_calls.specs.history.declared.event.Event.TheVariants.{Pool}
 use Rattle.dsql_laws_calls.specs.history.Readers.Pool.{pool, place, wanted_by}

@@ -4,7 +4,7 @@ use Rattle.std.proofs.Common.{◌≡◌, ◌≢◌, ℕ, ◌==◌, true, false, 
 use Rattle.std.specs.Option.{option_map, option_or}
 use Rattle.dsql_laws_calls.specs.numbered.Numbered.{Numbered, thing_of, changed}
 use Rattle.dsql_laws_calls.proofs.numbered.Numbers.{changes_one_number}
-use Rattle.dsql_laws_calls.proofs.Lists.{same_or_not}
+use Rattle.dsql_laws_calls.proofs.laws_work.Rows.{same_or_not}
 
 module _ {X : Type 0} where
   pub with_new : (n m : ℕ) (x : X) (things : Numbered X) → thing_of n (things ++ (m, x) ∷ []) ≡ option_or (thing_of n things) (cond (n == m) (Some x) None)

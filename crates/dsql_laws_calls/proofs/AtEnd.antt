@@ -34,7 +34,7 @@ use Rattle.dsql_laws.proofs.Numbered.{unfinished_from_one}
 use Rattle.dsql_laws.proofs.Holdings.{one_at_most}
 use Rattle.dsql_laws_calls.proofs.Works.{enters_next, old_unfinished, still_unfinished}
 use Rattle.dsql_laws_calls.proofs.Closed.{ended_closed, lends_none}
-use Rattle.dsql_laws_calls.proofs.Lists.{within_rows}
+use Rattle.dsql_laws_work.proofs.Rows.{within_rows}
 use Rattle.dsql_laws.specs.tx.declared.tx.Tx.{Tx}
 use Rattle.dsql_laws.specs.tx.Transactions.{begun_on, ended_by}
 use Rattle.dsql_laws.specs.history.Readers.Transactions.{tx_by, end_of, is_begun, is_over}

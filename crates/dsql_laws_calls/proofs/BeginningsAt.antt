@@ -18,8 +18,7 @@ use Rattle.dsql_laws.specs.works.Exchanges.{with_exchange, exchanges}
 use Rattle.dsql_laws.specs.history.Readers.Tries.{try_number, tries, tries_again}
 use Rattle.dsql_laws.proofs.Tests.{both, same_number, same_itself, other_number}
 use Rattle.dsql_laws.proofs.Wanted.{wanted}
-use Rattle.dsql_laws_calls.proofs.Lists.{read_set}
-use Rattle.dsql_laws_work.proofs.Rows.{same_or_not}
+use Rattle.dsql_laws_work.proofs.Rows.{same_or_not, read_set}
 use Rattle.dsql_laws.specs.history.declared.event.Event.{Event}
 use Rattle.dsql_laws.specs.history.declared.event.Event.TheVariants.{Entered, Heard, Pool, Replied, Ended}
 use Rattle.dsql_laws.specs.history.declared.event.Op.{Op}

@@ -10,7 +10,7 @@ use Rattle.dsql_laws.specs.history.Rules.Wishes.{wish_as}
 use Rattle.dsql_laws.proofs.Tests.{same_number, other_number}
 use Rattle.dsql_laws.proofs.Tried.{lent_count, shut_fewer}
 use Rattle.dsql_laws.proofs.Wanted.{wants_counts}
-use Rattle.dsql_laws_calls.proofs.Lists.{same_or_not}
+use Rattle.dsql_laws_work.proofs.Rows.{same_or_not}
 use Rattle.dsql_laws.specs.history.declared.work.Work.{Work}
 use Rattle.dsql_laws.specs.history.declared.work.Work.TheVariants.{Execute, ReadOne, HandOut, Begin, End, Ping as Pings, Fetch, Close, Look}
 use Rattle.dsql_laws.specs.history.Readers.Works.{asks, works, work, work_of, is_fetch, scope}

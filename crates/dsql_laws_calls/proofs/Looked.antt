@@ -10,7 +10,7 @@ use Rattle.dsql_laws.specs.rows.declared.end.RowsEnd.{RowsEnd}
 use Rattle.dsql_laws.specs.rows.OpenRows.{scan_answer, answer_of}
 use Rattle.dsql_laws.specs.journal.declared.entry.Entry.{Entry}
 use Rattle.dsql_laws.proofs.Tests.{other_number}
-use Rattle.dsql_laws_calls.proofs.Lists.{same_or_not}
+use Rattle.dsql_laws_work.proofs.Rows.{same_or_not}
 use Rattle.dsql_laws.specs.history.declared.event.Event.{Event}
 use Rattle.dsql_laws.specs.history.declared.event.Event.TheVariants.{Entered, Heard, Replied}
 use Rattle.dsql_laws.specs.history.declared.event.Op.{Op}

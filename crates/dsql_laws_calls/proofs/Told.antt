@@ -15,7 +15,7 @@ use Rattle.dsql_laws.proofs.Counts.{request-more, left_fewer, changed_fewer, gon
 use Rattle.dsql_laws.proofs.ByCall.{by_call}
 use Rattle.dsql_laws.proofs.Wanted.{is_opening_for, wanted, wants_counts, shut_wants, begun_wants, same_control}
 use Rattle.dsql_laws_calls.proofs.Own.{sender_wants_none}
-use Rattle.dsql_laws_calls.proofs.Lists.{read_set}
+use Rattle.dsql_laws_work.proofs.Rows.{read_set}
 use Rattle.dsql_laws.specs.history.declared.event.Event.{Event}
 use Rattle.dsql_laws.specs.history.declared.event.Event.TheVariants.{Run, Entered, Heard, Pool, Waits, Ticked, SetLimit, Replied, Ended}
 use Rattle.dsql_laws.specs.history.declared.event.Op.{Op}

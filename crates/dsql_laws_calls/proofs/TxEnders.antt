@@ -11,7 +11,7 @@ use Rattle.dsql_laws.specs.history.declared.work.Work.{Work}
 use Rattle.dsql_laws.specs.tx.declared.tx.Tx.{Tx}
 use Rattle.dsql_laws.specs.tx.Transactions.{ended_by}
 use Rattle.dsql_laws.proofs.Tests.{same_number}
-use Rattle.dsql_laws_calls.proofs.Lists.{within_rows}
+use Rattle.dsql_laws_work.proofs.Rows.{within_rows}
 use Rattle.dsql_laws.specs.history.declared.event.Event.{Event}
 use Rattle.dsql_laws.specs.history.declared.event.Event.TheVariants.{Entered, Heard, Replied, Ended}
 use Rattle.dsql_laws.specs.history.declared.event.Op.{Op}

@@ -21,7 +21,7 @@ use Rattle.dsql_laws.proofs.Counts.{uncounted, waits_none}
 use Rattle.dsql_laws.proofs.Places.{neither, none_opens}
 use Rattle.dsql_laws.proofs.Tests.{both, other_number}
 use Rattle.dsql_laws.proofs.Wanted.{is_opening_for, wanted}
-use Rattle.dsql_laws_calls.proofs.Lists.{same_or_not}
+use Rattle.dsql_laws_work.proofs.Rows.{same_or_not}
 use Rattle.dsql_laws_calls.proofs.Cases.{true_false}
 use Rattle.dsql_laws.specs.history.declared.work.Work.{Work}
 use Rattle.dsql_laws.specs.history.declared.work.Work.TheVariants.{Ping}

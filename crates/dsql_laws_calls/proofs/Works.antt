@@ -6,7 +6,8 @@ use Rattle.dsql_laws.specs.journal.declared.entry.Entry.{Entry}
 use Rattle.dsql_laws.specs.journal.Readers.{has}
 use Rattle.dsql_laws.specs.history.Readers.Tries.{try_number, tries}
 use Rattle.dsql_laws.proofs.Tests.{both, same_number, other_number}
-use Rattle.dsql_laws_calls.proofs.Lists.{row_old, row_off, row_new, has-without, has_push}
+use Rattle.dsql_laws_calls.proofs.Lists.{has-without}
+use Rattle.dsql_laws_work.proofs.Rows.{row_old, row_off, row_new, has_push}
 use Rattle.dsql_laws_calls.proofs.Stays.{as_many}
 use Rattle.dsql_laws.specs.history.declared.work.Work.{Work}
 use Rattle.dsql_laws.specs.history.declared.work.Work.TheVariants.{Look}

@@ -39,7 +39,7 @@ use Rattle.dsql_laws_calls.proofs.Closed.{closed_shut, ended_closed}
 use Rattle.dsql_laws_calls.proofs.Ends.{over_once_ended}
 use Rattle.dsql_laws_calls.proofs.AtEnd.{waits_only}
 use Rattle.dsql_laws_calls.proofs.Owners.{owner_is_of}
-use Rattle.dsql_laws_calls.proofs.Lists.{same_or_not}
+use Rattle.dsql_laws_calls.proofs.laws_work.Rows.{same_or_not}
 use Rattle.dsql_laws_ends.specs.Over.{HasRunOut, IsOver, ends_so, was_ended}
 use Rattle.dsql_laws_ends.proofs.Left.{IsKnown, known}
 use Rattle.dsql_laws_ends.proofs.EndsHeard.{ended_or_lent}

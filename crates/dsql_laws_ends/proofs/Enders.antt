@@ -19,7 +19,7 @@ use Rattle.dsql_laws_calls.specs.tx.Transactions.{ended_by as tx_ended_by}
 use Rattle.dsql_laws_calls.specs.works.HandedOut.{Made}
 use Rattle.dsql_laws_calls.specs.history.Readers.HandedOut.{fetched, live, are_live, born, caller, end_in, ended_at, ended_with, ender, handed_out, rows_by, rows_entered, rows_heard}
 use Rattle.dsql_laws_calls.proofs.Cases.{true_false}
-use Rattle.dsql_laws_calls.proofs.Lists.{same_or_not}
+use Rattle.dsql_laws_calls.proofs.laws_work.Rows.{same_or_not}
 use Rattle.dsql_laws_calls.specs.history.declared.event.Event.{Event}
 use Rattle.dsql_laws_calls.specs.history.declared.event.Event.TheVariants.{Entered, Heard}
 use Rattle.dsql_laws_calls.specs.history.declared.event.Op.{Op}

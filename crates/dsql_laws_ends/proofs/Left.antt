@@ -19,7 +19,7 @@ use Rattle.dsql_laws_calls.specs.history.Readers.Pool.{place, pool, wanted_by}
 use Rattle.dsql_laws_calls.specs.history.Legal.{has_left, Lawful}
 use Rattle.dsql_laws_calls.proofs.laws.Truths.{or_first, or_second}
 use Rattle.dsql_laws_calls.proofs.laws.Tests.{same_itself, same_number}
-use Rattle.dsql_laws_calls.proofs.Lists.{same_or_not}
+use Rattle.dsql_laws_calls.proofs.laws_work.Rows.{same_or_not}
 use Rattle.dsql_laws_calls.proofs.Born.{heard_open}
 use Rattle.dsql_laws_calls.proofs.Cases.{control_conns}
 use Rattle.dsql_laws_calls.proofs.Found.{changed_off, gone_off, place_in, shut_found}

@@ -14,7 +14,7 @@ use Rattle.dsql_laws_calls.specs.history.Rules.Wishes.{wish_as}
 use Rattle.dsql_laws_calls.proofs.laws.Truths.{or_second}
 use Rattle.dsql_laws_calls.proofs.laws.Tests.{both, other_number, same_itself, second}
 use Rattle.dsql_laws_calls.proofs.Cases.{true_false}
-use Rattle.dsql_laws_calls.proofs.Lists.{has_push}
+use Rattle.dsql_laws_calls.proofs.laws_work.Rows.{has_push}
 use Rattle.dsql_laws_ends.proofs.Resting.{kept_so, rests_no_begin, rests_no_maker, rests_not}
 use Rattle.dsql_laws_calls.specs.history.declared.event.Event.{Event}
 use Rattle.dsql_laws_calls.specs.history.declared.event.Event.TheVariants.{Entered, Heard, Pool, Replied}

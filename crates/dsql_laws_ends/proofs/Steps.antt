@@ -19,7 +19,7 @@ use Rattle.dsql_laws_calls.specs.history.Legal.{Lawful}
 use Rattle.dsql_laws_calls.proofs.laws.Numbered.{some_calls}
 use Rattle.dsql_laws_calls.proofs.laws.Splits.{Lawful-older}
 use Rattle.dsql_laws_calls.proofs.laws.Tests.{both, other_number, same_itself, same_number}
-use Rattle.dsql_laws_calls.proofs.Lists.{same_or_not}
+use Rattle.dsql_laws_calls.proofs.laws_work.Rows.{same_or_not}
 use Rattle.dsql_laws_calls.proofs.Works.{enters_next, new_record, old_unfinished, still_unfinished}
 use Rattle.dsql_laws_ends.specs.Steps.{begins_step_of, IsStep}
 use Rattle.dsql_laws_steps.specs.Groups.{is_later_of}

@@ -19,7 +19,7 @@ use Rattle.dsql_laws_calls.specs.history.Readers.Works.{work}
 use Rattle.dsql_laws_calls.specs.history.Legal.{Allowed, Lawful}
 use Rattle.dsql_laws_calls.proofs.laws.Numbered.{unfinished_from_one}
 use Rattle.dsql_laws_calls.proofs.laws.Tests.{both, other_number, same_itself, same_number}
-use Rattle.dsql_laws_calls.proofs.Lists.{read_set, row_old, same_or_not}
+use Rattle.dsql_laws_calls.proofs.laws_work.Rows.{read_set, row_old, same_or_not}
 use Rattle.dsql_laws_calls.proofs.TxEnders.{more_calls}
 use Rattle.dsql_laws_calls.proofs.Works.{enters_next, new_record, old_record, old_unfinished, still_unfinished}
 use Rattle.dsql_laws_ends.proofs.Finds.{any_of, found_in, found_none, found_passes}

@@ -18,7 +18,7 @@ use Rattle.dsql_laws_calls.specs.history.Readers.Works.{work}
 use Rattle.dsql_laws_calls.specs.history.Legal.{Lawful}
 use Rattle.dsql_laws_calls.proofs.laws.Truths.{or_second}
 use Rattle.dsql_laws_calls.proofs.laws.Tests.{both, other_number, same_itself, same_number}
-use Rattle.dsql_laws_calls.proofs.Lists.{read_set, same_or_not}
+use Rattle.dsql_laws_calls.proofs.laws_work.Rows.{read_set, same_or_not}
 use Rattle.dsql_laws_calls.proofs.Works.{enters_next, new_record, old_record, old_unfinished, other_replied, still_unfinished}
 use Rattle.dsql_laws_steps.specs.Groups.{IsGroup, is_later_of}
 use Rattle.dsql_laws_lines.specs.Entries.{is_entry}

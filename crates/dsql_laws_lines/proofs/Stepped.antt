@@ -7,7 +7,7 @@ use Rattle.dsql_laws_calls.specs.history.declared.event.Event.TheVariants.{Enter
 use Rattle.dsql_laws_calls.specs.history.declared.event.Op.{Op}
 use Rattle.dsql_laws_calls.specs.history.Readers.Clients.{is_free, made_by}
 use Rattle.dsql_laws_calls.proofs.laws.Tests.{together}
-use Rattle.dsql_laws_calls.proofs.Lists.{same_or_not}
+use Rattle.dsql_laws_calls.proofs.laws_work.Rows.{same_or_not}
 use Rattle.dsql_follows.specs.declared.line.Line.{Line}
 use Rattle.dsql_follows.specs.declared.line.Line.TheVariants.{Skip, Client, Start}
 use Rattle.dsql_follows.specs.Moments.{Moment, is_held, is_start, kept, lines_of}

@@ -22,7 +22,7 @@ use Rattle.dsql_laws_calls.specs.tx.declared.tx.Tx.{Tx as Trans}
 use Rattle.dsql_laws_calls.specs.works.Line.{test_of, Asked, line_after}
 use Rattle.dsql_laws_calls.specs.history.Readers.HandedOut.{live, over, is_late, rows_by, are_live, are_over, ender}
 use Rattle.dsql_laws_calls.specs.history.Rules.Wishes.{wish_as}
-use Rattle.dsql_laws_calls.proofs.Lists.{read_set}
+use Rattle.dsql_laws_calls.proofs.laws_work.Rows.{read_set}
 use Rattle.dsql_laws_calls.specs.history.declared.event.Event.{Event}
 use Rattle.dsql_laws_calls.specs.history.declared.event.Event.TheVariants.{Replied}
 use Rattle.dsql_laws_calls.specs.history.declared.reply.Reply.{Reply}

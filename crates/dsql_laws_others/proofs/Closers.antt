@@ -16,7 +16,7 @@ use Rattle.dsql_laws_calls.specs.history.Readers.HandedOut.{fetched, live, born,
 use Rattle.dsql_laws_calls.proofs.laws.Truths.{or_second}
 use Rattle.dsql_laws_calls.proofs.laws.Tests.{both, same_itself, same_number, other_number}
 use Rattle.dsql_laws_calls.proofs.Cases.{true_false}
-use Rattle.dsql_laws_calls.proofs.Lists.{read_set, same_or_not}
+use Rattle.dsql_laws_calls.proofs.laws_work.Rows.{read_set, same_or_not}
 use Rattle.dsql_laws_calls.specs.tx.declared.end.TxEnd.{TxEnd}
 use Rattle.dsql_laws_calls.specs.tx.declared.end.TxEnd.TheVariants as tx_ends
 use Rattle.dsql_laws_calls.specs.history.declared.event.Event.{Event}

@@ -26,7 +26,7 @@ use Rattle.dsql_laws_calls.specs.history.Readers.HandedOut.{live, over, handed_o
 use Rattle.dsql_laws_calls.specs.history.Readers.Pool.{is_home, or_none, smallest, pool, place, home}
 use Rattle.dsql_laws_calls.specs.history.Readers.Tries.{try_number, has_a_try, tries, tries_again}
 use Rattle.dsql_laws_calls.proofs.laws.Tests.{together, other_number, same_itself}
-use Rattle.dsql_laws_calls.proofs.Lists.{within_rows}
+use Rattle.dsql_laws_calls.proofs.laws_work.Rows.{within_rows}
 use Rattle.dsql_laws_others.proofs.Untouched.{still_stands}
 use Rattle.dsql_laws_calls.specs.history.declared.event.Event.{Event}
 use Rattle.dsql_laws_calls.specs.history.declared.event.Event.TheVariants.{Entered}

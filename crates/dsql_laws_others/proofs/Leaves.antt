@@ -25,7 +25,7 @@ use Rattle.dsql_laws_calls.specs.history.Readers.Pool.{is_home, smallest, pool, 
 use Rattle.dsql_laws_calls.proofs.laws.Tests.{both, same_itself}
 use Rattle.dsql_laws_calls.proofs.Cases.{true_false}
 use Rattle.dsql_laws_calls.proofs.Found.{place_in}
-use Rattle.dsql_laws_calls.proofs.Lists.{same_or_not}
+use Rattle.dsql_laws_calls.proofs.laws_work.Rows.{same_or_not}
 use Rattle.dsql_laws_calls.proofs.Own.{asks_own}
 use Rattle.dsql_laws_others.proofs.Once.{all_found}
 use Rattle.dsql_laws_others.proofs.Settling.{each_stands}

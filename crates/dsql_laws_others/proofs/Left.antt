@@ -24,7 +24,7 @@ use Rattle.dsql_laws_calls.proofs.laws.Tests.{other_number, same_number}
 use Rattle.dsql_laws_calls.proofs.laws.Wanted.{none_wanted}
 use Rattle.dsql_laws_calls.proofs.Cases.{true_false}
 use Rattle.dsql_laws_calls.proofs.Found.{place_in, uses_in, changed_off}
-use Rattle.dsql_laws_calls.proofs.Lists.{same_or_not}
+use Rattle.dsql_laws_calls.proofs.laws_work.Rows.{same_or_not}
 use Rattle.dsql_laws_others.proofs.Once.{found_number, found_some}
 use Rattle.dsql_laws_calls.specs.history.declared.event.Event.{Event}
 use Rattle.dsql_laws_calls.specs.history.declared.event.Event.TheVariants.{Heard, Pool}

@@ -21,7 +21,7 @@ use Rattle.dsql_laws_calls.specs.history.declared.record.Try.TheVariants.{Served
 use Rattle.dsql_laws_calls.proofs.laws.Wanted.{wanted}
 use Rattle.dsql_laws_calls.proofs.laws.Tests.{both, together, other_number, same_itself}
 use Rattle.dsql_laws_calls.proofs.Found.{place_in, uses_in, changed_off}
-use Rattle.dsql_laws_calls.proofs.Lists.{same_or_not}
+use Rattle.dsql_laws_calls.proofs.laws_work.Rows.{same_or_not}
 use Rattle.dsql_laws_calls.specs.history.declared.event.Event.{Event}
 use Rattle.dsql_laws_calls.specs.history.declared.work.Scope.TheVariants.{Db, Tx}
 use Rattle.dsql_laws_calls.specs.history.declared.work.Work.{Work}

@@ -9,7 +9,7 @@ use Rattle.dsql_laws_calls.specs.history.Readers.HandedOut.{live, over, is_late,
 use Rattle.dsql_laws_calls.specs.history.Rules.Wishes.{wish_as}
 use Rattle.dsql_laws_calls.proofs.laws.Tests.{other_number}
 use Rattle.dsql_laws_calls.proofs.DueWay.{borrow_same}
-use Rattle.dsql_laws_calls.proofs.Lists.{same_or_not}
+use Rattle.dsql_laws_calls.proofs.laws_work.Rows.{same_or_not}
 use Rattle.dsql_laws_calls.specs.history.declared.event.Event.{Event}
 use Rattle.dsql_laws_calls.specs.history.declared.event.Event.TheVariants.{Pool}
 use Rattle.dsql_laws_calls.specs.history.declared.work.Scope.TheVariants.{Db, Tx}

@@ -14,7 +14,7 @@ use Rattle.dsql_laws_calls.specs.history.declared.record.Try.TheVariants.{Served
 use Rattle.dsql_laws_calls.specs.history.Readers.Pool.{is_home, or_none, smallest, pool, place, home}
 use Rattle.dsql_laws_calls.specs.history.Readers.Tries.{with_try, tries}
 use Rattle.dsql_laws_calls.proofs.laws.Tests.{same_number, other_number}
-use Rattle.dsql_laws_calls.proofs.Lists.{same_or_not}
+use Rattle.dsql_laws_calls.proofs.laws_work.Rows.{same_or_not}
 use Rattle.dsql_laws_others.proofs.Lends.{still_waits, lends, lent_unbegun, stands_lent}
 use Rattle.dsql_laws_others.proofs.Meant.{is_meant, meant}
 use Rattle.dsql_laws_others.proofs.Settling.{each_stands}

@@ -32,7 +32,7 @@ use Rattle.dsql_laws_calls.specs.history.declared.record.Try.TheVariants.{Served
 use Rattle.dsql_laws_calls.specs.history.Readers.Owed.{fate_when, fate}
 use Rattle.dsql_laws_calls.specs.history.Readers.Tries.{lost, with_try, is_tried, loses, newest_answer, tries}
 use Rattle.dsql_laws_calls.proofs.laws.Tests.{both, together, same_itself, other_number}
-use Rattle.dsql_laws_calls.proofs.Lists.{same_or_not}
+use Rattle.dsql_laws_calls.proofs.laws_work.Rows.{same_or_not}
 use Rattle.dsql_laws_calls.specs.history.declared.event.Event.{Event}
 use Rattle.dsql_laws_calls.specs.history.declared.event.Event.TheVariants.{Run, Entered, Heard, Pool, Waits, Ticked, SetLimit, Replied, Ended}
 use Rattle.dsql_laws_calls.specs.history.declared.event.Op.{Op}

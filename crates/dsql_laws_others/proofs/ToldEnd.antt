@@ -22,7 +22,7 @@ use Rattle.dsql_laws_calls.proofs.laws.Truths.{or_second}
 use Rattle.dsql_laws_calls.proofs.laws.Places.{neither, none_opens}
 use Rattle.dsql_laws_calls.proofs.laws.Tests.{both, together, other_number}
 use Rattle.dsql_laws_calls.proofs.Cases.{true_false}
-use Rattle.dsql_laws_calls.proofs.Lists.{same_or_not}
+use Rattle.dsql_laws_calls.proofs.laws_work.Rows.{same_or_not}
 use Rattle.dsql_laws_others.proofs.Answered.{rests_there, replies_first}
 use Rattle.dsql_laws_calls.specs.history.declared.event.Event.{Event}
 use Rattle.dsql_laws_calls.specs.history.declared.event.Event.TheVariants.{Entered}

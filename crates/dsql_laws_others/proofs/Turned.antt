@@ -11,7 +11,7 @@ use Rattle.dsql_laws_calls.proofs.rows.Numbers.{changes_one_number as rows_chang
 use Rattle.dsql_laws_calls.specs.tx.declared.end.TxEnd.{TxEnd}
 use Rattle.dsql_laws_calls.specs.tx.declared.tx.Tx.{Tx as Trans}
 use Rattle.dsql_laws_calls.specs.tx.Transactions as of_txs
-use Rattle.dsql_laws_calls.proofs.Lists.{same_or_not}
+use Rattle.dsql_laws_calls.proofs.laws_work.Rows.{same_or_not}
 use Rattle.dsql_laws_calls.specs.history.Readers.HandedOut.{live, over, born, end_in, ended_with, handed_out, rows_by, rows_entered}
 use Rattle.dsql_laws_calls.specs.history.declared.event.Event.{Event}
 use Rattle.dsql_laws_calls.specs.history.declared.event.Event.TheVariants.{Entered}

@@ -47,6 +47,9 @@ row_at xs i a d h = grind (arith, read_set xs i a i d)
 pub row_off : {A : Type 0} (xs : List A) (i : ℕ) (a : A) (j : ℕ) (d : A) → j ≢ i → get_or (set xs i a) j d ≡ get_or xs j d
 row_off xs i a j d h = grind (arith, read_set xs i a j d)
 
+pub row_new : {A : Type 0} (xs : List A) (a : A) (i : ℕ) (d : A) → i ≡ length xs → get_or (xs ++ a ∷ []) i d ≡ a
+row_new xs a i d h = grind (arith, read_push xs a i d)
+
 pub row_old : {A : Type 0} (xs : List A) (a : A) (i : ℕ) (d : A) → i ≢ length xs → get_or (xs ++ a ∷ []) i d ≡ get_or xs i d
 row_old xs a i d h = grind (arith, read_push xs a i d)
 

@@ -16,7 +16,7 @@ use Rattle.dsql_engine_laws.specs.history.Readers.Course.{has_ended}
 use Rattle.dsql_engine_laws.specs.history.Readers.Journals.{journal}
 use Rattle.dsql_engine_laws.specs.history.Rules.Flights.{without_flight}
 use Rattle.dsql_engine_laws.specs.history.Legal.{Lawful, Legal}
-use Rattle.dsql_engine_laws.proofs.laws_calls.Lists.{same_or_not}
+use Rattle.dsql_engine_laws.proofs.laws_work.Rows.{same_or_not}
 use Rattle.dsql_engine.specs.Core.{Core}
 use Rattle.dsql_engine.specs.Hearing.{MayBeHeard}
 use Rattle.dsql_engine_laws.specs.going.Stepping.{GoesOnOrRests}

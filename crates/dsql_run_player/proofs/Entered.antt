@@ -14,7 +14,7 @@ use Rattle.dsql_engine_laws.specs.history.Readers.Course.{has_ended}
 use Rattle.dsql_engine_laws.specs.history.Rules.Flights.{permitted}
 use Rattle.dsql_engine_laws.specs.history.Rules.Stands.{stand}
 use Rattle.dsql_engine_laws.specs.history.Legal.{Legal}
-use Rattle.dsql_engine_laws.proofs.laws_calls.Lists.{same_or_not}
+use Rattle.dsql_engine_laws.proofs.laws_work.Rows.{same_or_not}
 use Rattle.dsql_engine_laws.specs.going.declared.next.Next.{Next}
 use Rattle.dsql_engine_laws.specs.going.Reaching.{HasGoneOn}
 use Rattle.dsql_engine_laws.proofs.laws_ends.Steps.{step_ended}

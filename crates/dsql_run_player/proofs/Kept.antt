@@ -9,7 +9,7 @@ use Rattle.dsql_engine_laws.specs.history.Readers.Calls.{is_busy}
 use Rattle.dsql_engine_laws.specs.history.Readers.Clients.{call_of, is_free}
 use Rattle.dsql_engine_laws.specs.history.Legal.{Lawful, Legal}
 use Rattle.dsql_engine_laws.proofs.laws.Tests.{other_number, same_itself}
-use Rattle.dsql_engine_laws.proofs.laws_calls.Lists.{same_or_not}
+use Rattle.dsql_engine_laws.proofs.laws_work.Rows.{same_or_not}
 use Rattle.dsql_engine_laws.proofs.laws_ends.Whose.{free_idle}
 use Rattle.dsql_engine_laws.specs.follows.declared.line.Line.{Line}
 use Rattle.dsql_engine_laws.specs.follows.declared.line.Line.TheVariants.{Client, Start}

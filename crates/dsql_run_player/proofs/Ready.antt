@@ -20,7 +20,7 @@ use Rattle.dsql_engine_laws.specs.history.Rules.Line.{parts}
 use Rattle.dsql_engine_laws.specs.history.Rules.Stands.{stand}
 use Rattle.dsql_engine_laws.specs.history.Legal.{Lawful, Legal}
 use Rattle.dsql_engine_laws.proofs.laws.Tests.{other_number, same_number}
-use Rattle.dsql_engine_laws.proofs.laws_calls.Lists.{same_or_not}
+use Rattle.dsql_engine_laws.proofs.laws_work.Rows.{same_or_not}
 use Rattle.dsql_engine_laws.specs.going.Reaching.{HasGoneOn}
 use Rattle.dsql_engine_laws.specs.going.declared.next.Next.{Next}
 use Rattle.dsql_engine_laws.proofs.hearing.Steps.{landed_apart}

@@ -20,7 +20,7 @@ use Rattle.dsql_engine_laws.specs.history.Rules.Stands.{stand}
 use Rattle.dsql_engine_laws.specs.history.Legal.{Lawful}
 use Rattle.dsql_engine_laws.proofs.laws.Places.{neither}
 use Rattle.dsql_engine_laws.proofs.laws.Tests.{other_number}
-use Rattle.dsql_engine_laws.proofs.laws_calls.Lists.{same_or_not}
+use Rattle.dsql_engine_laws.proofs.laws_work.Rows.{same_or_not}
 use Rattle.dsql_engine_laws.specs.going.declared.next.Next.{Next}
 use Rattle.dsql_engine_laws.specs.going.declared.next.Next.TheVariants as nexts
 use Rattle.dsql_engine_laws.specs.going.declared.next.Why.{Why}

@@ -13,7 +13,7 @@ use Rattle.dsql_engine_laws.specs.laws_ends.Over.{may_move}
 use Rattle.dsql_engine_laws.specs.history.Rules.Stands.{stand}
 use Rattle.dsql_engine_laws.specs.history.Legal.{Lawful}
 use Rattle.dsql_engine_laws.proofs.laws.Tests.{same_itself}
-use Rattle.dsql_engine_laws.proofs.laws_calls.Lists.{same_or_not}
+use Rattle.dsql_engine_laws.proofs.laws_work.Rows.{same_or_not}
 use Rattle.dsql_engine_laws.specs.follows.declared.line.Line.{Line}
 use Rattle.dsql_engine_laws.specs.follows.declared.line.Line.TheVariants.{Client, Start}
 use Rattle.dsql_engine_laws.specs.follows.Moments.{Moment, is_held, is_start, kept, landed, takes_permit}

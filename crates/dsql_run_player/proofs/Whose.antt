@@ -11,7 +11,7 @@ use Rattle.dsql_engine_laws.specs.history.Legal.{Lawful}
 use Rattle.dsql_engine_laws.proofs.laws.Numbered.{unfinished_from_one}
 use Rattle.dsql_engine_laws.proofs.laws.Splits.{Lawful-older}
 use Rattle.dsql_engine_laws.proofs.laws.Tests.{both}
-use Rattle.dsql_engine_laws.proofs.laws_calls.Lists.{same_or_not}
+use Rattle.dsql_engine_laws.proofs.laws_work.Rows.{same_or_not}
 use Rattle.dsql_engine_laws.proofs.laws_calls.Works.{still_unfinished}
 use Rattle.dsql_engine_laws.specs.laws_ends.Steps.{IsStep, begins_step_of}
 use Rattle.dsql_engine_laws.proofs.laws_ends.Finds.{any_of}
