@@ -39,10 +39,6 @@ use Rattle.dsql_laws.proofs.Asker.{asker}
 use Rattle.dsql_laws.proofs.AtRest.{Keeps, keeps_of, asks_now, asked_so, queued_so}
 use Rattle.dsql_laws.proofs.Tried.{lends_to}
 
-not_true : (b : Bool) → not b ≡ true → b ≡ false
-not_true true h = absurd cc
-not_true false h = refl
-
 -- A call that may ask has nothing in the pool.
 pub nothing_held : (H : List Event) (n : ℕ) → Lawful H → may_ask H n ≡ true → holdings n (pool H) ≡ 0
 nothing_held H n l may =

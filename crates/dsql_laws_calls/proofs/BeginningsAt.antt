@@ -22,7 +22,6 @@ use Rattle.dsql_laws_work.proofs.Rows.{same_or_not, read_set}
 use Rattle.dsql_laws.specs.history.declared.event.Event.{Event}
 use Rattle.dsql_laws.specs.history.declared.event.Event.TheVariants.{Entered, Heard, Pool, Replied, Ended}
 use Rattle.dsql_laws.specs.history.declared.event.Op.{Op}
-use Rattle.dsql_laws.specs.history.declared.record.CallRecord.{CallRecord}
 use Rattle.dsql_laws.specs.history.declared.reply.Reply.{Reply}
 use Rattle.dsql_laws.specs.history.declared.work.Work.{Work}
 use Rattle.dsql_laws.specs.history.declared.work.Work.TheVariants.{Look}
@@ -223,9 +222,6 @@ told_heard H e l begin x y = by (read_set (calls H) e.call_no (decided_by number
   where
     number : ℕ
     number = try_number (tries H e.call_no)
-
-    changed : CallRecord
-    changed = decided_by (try_number (tries H e.call_no)) (work H e.call_no) e (call_record H e.call_no)
 
     settled : is_some (decided_by (try_number (tries H e.call_no)) (work H e.call_no) e (call_record H e.call_no)).decided ≡ true
     settled =

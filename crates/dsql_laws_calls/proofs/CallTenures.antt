@@ -27,13 +27,13 @@ use Rattle.dsql_laws.specs.history.declared.work.Scope.TheVariants.{Db}
 use Rattle.dsql_laws.specs.history.declared.work.Work.{Work}
 use Rattle.dsql_laws.specs.history.declared.work.Work.TheVariants as works_of
 use Rattle.dsql_laws.specs.history.Readers.Course.{caps}
-use Rattle.dsql_laws.specs.history.Readers.Works.{work, scope, asks, owner_of}
+use Rattle.dsql_laws.specs.history.Readers.Works.{work, scope, asks}
 use Rattle.dsql_laws.specs.history.Readers.Journals.{journal, heard_in}
 use Rattle.dsql_laws.specs.history.Readers.Pool.{place}
 use Rattle.dsql_laws.specs.history.Rules.Sent.{is_reset_due, asked_by, line_with}
 use Rattle.dsql_laws.specs.history.Rules.Line.{is_due}
 use Rattle.dsql_laws.specs.history.Legal.{Lawful}
-use Rattle.dsql_laws_calls.proofs.Owners.{owner_is_of, lent_asks}
+use Rattle.dsql_laws_calls.proofs.Owners.{lent_asks}
 use Rattle.dsql_laws_calls.proofs.Plain.{is_plain, begins}
 use Rattle.dsql_laws_calls.proofs.Beginnings.{begin_owner}
 use Rattle.dsql_laws.specs.history.Readers.Lines.{line_among, line_in}
@@ -49,9 +49,6 @@ line_of_call H c t own w l is call =
     by (work H (number_of own)) (lent_asks H c t own l is) not_begin
     ∙ ap (λ b. line_after (caps H) (is_reset_due H c) (asked_by H (number_of own)) w (cond b (heard_in H c t) (line_among (number_of own) (heard_in H c t)))) call
   where
-    owner : own ≡ owner_of H (number_of own)
-    owner = let o = owner_is_of H c t own l is in o.1
-
     not_begin : begins (work H (number_of own)) ≡ false
     not_begin = at (begins (work H (number_of own))) refl
       where

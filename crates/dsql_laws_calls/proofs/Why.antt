@@ -112,9 +112,6 @@ closes_now H c t own k l is x =
 pub ending_some : (H : List Event) (c t : ℕ) (own : Owner) (end : TxEnd) → Lawful H → place H c ≡ Some (Lent t own) → tx_end H (number_of own) ≡ Some end → Left H c t own → is_some (ending H (number_of own)) ≡ true
 ending_some H c t own end l is ended left = ap (λ d. is_some d) here ∙ by left
   where
-    it : Option DriverCall
-    it = or_else (first_closing H (number_of own) 0 (works H)) (end_after H (went_bad (journal H c)) end (heard_in H c t))
-
     here : ending H (number_of own) ≡ or_else (first_closing H (number_of own) 0 (works H)) (end_after H (went_bad (journal H c)) end (heard_in H c t))
     here =
         ap (ending_with H (number_of own)) ended

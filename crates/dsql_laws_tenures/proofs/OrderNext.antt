@@ -86,9 +86,6 @@ no_cursor c (due.Handle handle) (got.Cursor rows) is may gives = impossible is
 no_cursor c _ (got.Cursor rows) is may gives = impossible is
 no_cursor c d _ is may gives = impossible gives
 
-none_more : (a b : Bool) → a ≡ false → b ≡ false → a || b ≡ true → ⊥
-none_more a b h k is = absurd (grind (arith, h, k, is))
-
 pub fresh_text : (c : Course) (can : Caps) (g : Got) → may_get c due.Text g ≡ true → has_fast_way c can ≡ true → Fresh c can [] due.Text g
 fresh_text c can g may fast = record {
   behind = refl;

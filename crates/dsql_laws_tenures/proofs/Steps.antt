@@ -80,9 +80,6 @@ none_ended p (x ∷ made) h k =
     let q = parts2 (nat_le (place x.0) p) (within p made) h in
     rw (no_end_of x.0 x.1 (beyond (place x.0) p 4 q.0 k)) (none_ended p made q.1 k)
 
-further : (p m n : ℕ) → nat_lt p m ≡ true → m ≡ n → nat_lt p n ≡ true
-further p m n h same = rw (← same) h
-
 later_than : (p : ℕ) → nat_lt p 3 ≡ true → nat_lt p 6 ≡ true
 later_than p h = grind (arith, nat_tests, h)
 

@@ -6,7 +6,7 @@ use Rattle.dsql_history.specs.driver.declared.answer.DriverAnswer.TheVariants.{D
 use Rattle.dsql_history.specs.driver.declared.caps.Caps.{Caps}
 use Rattle.dsql_history.specs.driver.Kinds.{is_reset, is_valid}
 use Rattle.dsql_history.specs.journal.declared.entry.Entry.{Entry}
-use Rattle.dsql_history.specs.journal.declared.entry.Owner.TheVariants.{Call, Tx}
+use Rattle.dsql_history.specs.journal.declared.entry.Owner.TheVariants.{Call}
 use Rattle.dsql_history.specs.journal.Entries.{connect_entry}
 use Rattle.dsql_history.specs.journal.Kinds.{◌⇒◌}
 use Rattle.dsql_history.specs.journal.Readers.{last_tenure, of_tenure, went_bad}
@@ -26,10 +26,10 @@ use Rattle.dsql_laws_work.proofs.Standing as first
 use Rattle.dsql_laws_tenures.proofs.Numbers.{same_number}
 use Rattle.dsql_laws_tenures.specs.Tenures.{IsOfTransaction}
 use Rattle.dsql_laws_tenures.specs.Connections.{IsAlone, IsOpen, IsQuiet}
-use Rattle.dsql_laws_tenures.proofs.Alone.{alone_on, each_whole, last_whole}
+use Rattle.dsql_laws_tenures.proofs.Alone.{each_whole, last_whole}
 use Rattle.dsql_laws_tenures.proofs.FirstTenures.{as_first}
 use Rattle.dsql_laws_tenures.proofs.TenureQuiet.{alone_first, never_invalid, quiet_again, quiet_opened}
-use Rattle.dsql_laws_tenures.proofs.Transactions.{transaction_first, transaction_on}
+use Rattle.dsql_laws_tenures.proofs.Transactions.{transaction_first}
 use Rattle.dsql_laws_tenures.proofs.Serves.{Serves, same_tenure, serves_cursors, serves_first, serves_handles, serves_on, serves_so_far, whole_there}
 
 -- Holds if the connection is idle.
@@ -130,11 +130,6 @@ pub tx_of_call : (n : ℕ) (J : List Entry) (e : Entry) → may_follow J e ≡ t
 tx_of_call n J e may owner =
     let f : MayFollow J e = MayFollow-of J e may in
     outside (is_reset e.call || is_valid e.call) e.tx f.tenure.tests (λ body. let b = rw owner at (f.tenure.in_body body) in b.no_transaction)
-
--- The next driver call of the transaction keeps the connection lent to it.
-pub holds_heard : (c l t k : ℕ) (J : List Entry) (e : Entry) → HoldsTransaction c l t k J → may_follow J e ≡ true → e.tenure ≡ t → e.owner ≡ Tx k → HoldsTransaction c l t k (e ∷ J)
-holds_heard c l t k J e s may tenure owner =
-    record { tenure = s.tenure; alone = alone_on c t J e s.alone may tenure (rw owner refl); own = transaction_on k t J e s.own may (λ _. owner) }
 
 -- The next driver call of the call keeps the connection lent to it.
 pub works_heard : (c l t n m : ℕ) (J : List Entry) (e : Entry) (can : Caps) (reset : Bool) (asked : Asked) (w : Wish) → Works c l t n J
