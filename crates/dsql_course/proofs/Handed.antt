@@ -77,15 +77,7 @@ over_stays _ = refl
 
 never_handle : (due : Due) (handle : ℕ) → but_no_handle due ≡ call.CloseStmt handle → ⊥
 never_handle (call.CloseStmt own) handle h = cc
-never_handle call.Text handle h = cc
-never_handle call.Prepare handle h = cc
-never_handle (call.Handle own) handle h = cc
-never_handle (call.Next rows) handle h = cc
-never_handle (call.CloseRows rows) handle h = cc
-never_handle call.Ping handle h = cc
-never_handle call.Begin handle h = cc
-never_handle call.Rollback handle h = cc
-never_handle call.Over handle h = cc
+never_handle _ handle h = cc
 
 pub rows_of_any_course : RowsOfAnyCourse
 rows_of_any_course = record {

@@ -48,12 +48,7 @@ InOrder (step ∷ later) = AllBehind (place step) later × InOrder later
 
 pub in_order : (c : Course) → InOrder (steps c)
 in_order course.Exec = search rules
-in_order course.Query = search rules
-in_order course.One = search rules
-in_order course.Prepare = search rules
-in_order (course.Run reads one live) = search rules
-in_order course.Ping = search rules
-in_order course.Begin = search rules
+in_order _ = search rules
 
 pub same_step-sound : (s t : Step) → same_step s t ≡ true → s ≡ t
 same_step-sound RunText RunText h = refl

@@ -27,15 +27,8 @@ summary_with made last handle cursor skipped done settled over bad it answer s =
 
 decides_by : (c : Course) (it : Due) (answer : Got) → decides c (it, answer) ≡ is_settled (it, answer) || (is_some (given_cursor answer) && not (reads_one c))
 decides_by c (call.Next rows) answer = refl
-decides_by c call.Text got.Result = refl
-decides_by c call.Prepare got.Result = refl
-decides_by c (call.Handle handle) got.Result = refl
 decides_by c it got.Result = refl
-decides_by c call.Text got.Fail = refl
-decides_by c call.Prepare got.Fail = refl
-decides_by c (call.Handle handle) got.Fail = refl
-decides_by c it (got.Cursor rows) = refl
-decides_by c it answer = refl
+decides_by c it _ = refl
 
 some_else : {X : Type 0} (o p : Option X) → is_some (or_else o p) ≡ is_some o || is_some p
 some_else None p = refl

@@ -6,7 +6,7 @@ use Rattle.dsql_driver.specs.declared.caps.Caps.{Caps}
 use Rattle.dsql_course.specs.declared.course.Course.{Course}
 use Rattle.dsql_course.specs.declared.call.Due.{Due}
 use Rattle.dsql_course.specs.declared.call.Due.TheVariants as call
-use Rattle.dsql_course.specs.Steps.{Step, RunText, PrepareText, RunHandle, FetchRow, CloseCursor, CloseHandle, PingIt, BeginIt, UndoIt, steps, step_of, same_step, behind}
+use Rattle.dsql_course.specs.Steps.{Step, RunText, steps, step_of, same_step, behind}
 use Rattle.dsql_course.specs.Made.{Exchange, went_bad}
 use Rattle.dsql_course.specs.Line.{Found, Turn, exchange, or_then, wanted, first_wanted, steps_left, behind_call, comes_next, IsLine}
 use Rattle.dsql_course.proofs.Turns.{newest}
@@ -18,14 +18,7 @@ IsAmong step all = list_any (same_step step) all ≡ true
 
 same_step-self : (s : Step) → same_step s s ≡ true
 same_step-self RunText = refl
-same_step-self PrepareText = refl
-same_step-self RunHandle = refl
-same_step-self FetchRow = refl
-same_step-self CloseCursor = refl
-same_step-self CloseHandle = refl
-same_step-self PingIt = refl
-same_step-self BeginIt = refl
-same_step-self UndoIt = refl
+same_step-self _ = refl
 
 -- Holds if the step wants this call, and is one of these steps.
 pub record Takes (c : Course) (can : Caps) (args : ℕ) (found : Found) (made : List Exchange) (step : Step) (due : Due) (all : List Step) : Type 0 where

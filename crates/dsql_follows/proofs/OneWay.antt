@@ -9,7 +9,7 @@ use Rattle.dsql_history.specs.declared.event.Event.TheVariants.{Run, Entered, He
 use Rattle.dsql_history.specs.declared.event.Op.{Op}
 use Rattle.dsql_history.specs.declared.event.Control.{Control}
 use Rattle.dsql_history.specs.declared.record.Stand.{Stand}
-use Rattle.dsql_history.specs.declared.record.Stand.TheVariants.{Waits, Opens, Sends, Replies, Asks}
+use Rattle.dsql_history.specs.declared.record.Stand.TheVariants.{Sends}
 use Rattle.dsql_history.specs.Rules.Stands.{stand}
 use Rattle.dsql_follows.specs.Turns.{is_it, can_move, first_chore, next_client, is_turn_of, has_run_out, comes_in_turn}
 use Rattle.dsql_follows.specs.declared.line.Line.{Line}
@@ -88,11 +88,7 @@ stops_at_start m client op = stops_either (enters_now m client) (λ xs. is_one_s
 
 stops_waking : (n : ℕ) (it : Option Stand) → Stops (λ xs. wakes n xs it)
 stops_waking n (Some (Sends c)) = stops_empty
-stops_waking n None = stops_both (λ xs. is_one_step xs) (λ xs. goes_on_by_itself n (oldest xs)) stops_one
-stops_waking n (Some Waits) = stops_both (λ xs. is_one_step xs) (λ xs. goes_on_by_itself n (oldest xs)) stops_one
-stops_waking n (Some (Opens c)) = stops_both (λ xs. is_one_step xs) (λ xs. goes_on_by_itself n (oldest xs)) stops_one
-stops_waking n (Some Replies) = stops_both (λ xs. is_one_step xs) (λ xs. goes_on_by_itself n (oldest xs)) stops_one
-stops_waking n (Some Asks) = stops_both (λ xs. is_one_step xs) (λ xs. goes_on_by_itself n (oldest xs)) stops_one
+stops_waking n _ = stops_both (λ xs. is_one_step xs) (λ xs. goes_on_by_itself n (oldest xs)) stops_one
 
 stops_of_call : (m : Moment) (n : ℕ) → Stops (λ xs. steps_call m xs n)
 stops_of_call m n =

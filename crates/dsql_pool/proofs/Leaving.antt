@@ -8,7 +8,7 @@ use Rattle.dsql_time.specs.declared.Limits.{Limits}
 use Rattle.dsql_pool.specs.declared.conn.Conn.{Conn}
 use Rattle.dsql_pool.specs.declared.moves.CloseCause.{CloseCause}
 use Rattle.dsql_pool.specs.declared.moves.Move.{Move}
-use Rattle.dsql_pool.specs.declared.moves.Move.TheVariants.{OpenStart, Lend, Back, CloseStart, Gone, Fell}
+use Rattle.dsql_pool.specs.declared.moves.Move.TheVariants.{CloseStart}
 use Rattle.dsql_pool.specs.Places.{conn_of, is_idle, is_free}
 use Rattle.dsql_pool.specs.Changes.{changed, closing}
 use Rattle.dsql_pool.specs.Pooled.{Pooled}
@@ -25,11 +25,7 @@ use Rattle.dsql_pool.proofs.Frees.{passing, count-changed, length-changed}
 by_closing : (P : List Move → Pooled → Type 0) → ((p : Pooled) → P [] p) → ((c : ℕ) (cause : CloseCause) (ms : List Move) (p : Pooled) → P ms (moved (CloseStart c cause) p) → P (CloseStart c cause ∷ ms) p) → (moves : List Move) (p : Pooled) → list_all starts_closing moves ≡ true → P moves p
 by_closing P base step [] p h = base p
 by_closing P base step (CloseStart c cause ∷ ms) p h = step c cause ms p (by_closing P base step ms (moved (CloseStart c cause) p) h)
-by_closing P base step (OpenStart c n ∷ ms) p h = cc
-by_closing P base step (Lend c tenure owner n ∷ ms) p h = cc
-by_closing P base step (Back c ∷ ms) p h = cc
-by_closing P base step (Gone c ∷ ms) p h = cc
-by_closing P base step (Fell c n ∷ ms) p h = cc
+by_closing P base step (_ ∷ ms) p h = cc
 
 -- Returns the connections that the moves begin to close.
 abbrev pub out : List Move → List ℕ

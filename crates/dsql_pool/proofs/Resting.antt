@@ -12,7 +12,7 @@ use Rattle.dsql_tenure_journal.specs.Readers.{is_empty}
 use Rattle.dsql_time.specs.Limits.{has_expired}
 use Rattle.dsql_wait.specs.declared.request.Request.{Request}
 use Rattle.dsql_pool.specs.declared.conn.Place.{Place}
-use Rattle.dsql_pool.specs.declared.conn.Place.TheVariants.{Idle, Lent, Opening, Closing}
+use Rattle.dsql_pool.specs.declared.conn.Place.TheVariants.{Lent, Opening, Closing}
 use Rattle.dsql_pool.specs.declared.conn.Conn.{Conn}
 use Rattle.dsql_pool.specs.declared.moves.Fate.{Fate}
 use Rattle.dsql_pool.specs.declared.moves.Fate.TheVariants as fate
@@ -167,15 +167,12 @@ pub opened_call_rests : (c : ℕ) (p : Pooled) → AtRest p → is_opening (plac
 opened_call_rests c p h may = placed (place_at p c) refl may
   where
     placed : (o : Option Place) → place_at p c ≡ o → is_opening o ≡ true → AtRest (made (when_opened o c p) p)
-    placed None e k = cc
-    placed (Some Idle) e k = cc
-    placed (Some (Lent tenure owner)) e k = cc
-    placed (Some Closing) e k = cc
     placed (Some (Opening (Some owner))) e k =
         lend_rests c (next_tenure p c) (number_of owner) owner p h (lend_enough c (next_tenure p c) (number_of owner) owner p h (passes_none p c (Opening (Some owner)) e refl))
     placed (Some (Opening None)) e k =
         let x = found_at (conn_of c p.conns) (Opening None) e in
         unwanted_rests c x.0 p (when_good false p) h x.1 x.2 refl
+    placed _ e k = cc
 
 -- The pool is at rest after a lent connection that nothing is said against was placed.
 good_rests : (c : ℕ) (x : Conn) (p : Pooled) (expired : Bool) (outcome : Outcome) (tenure : ℕ) (owner : Owner) → AtRest p → conn_of c p.conns ≡ Some x → x.place ≡ Lent tenure owner → is_expired p (conn_of c p.conns) ≡ expired → when_good expired p ≡ outcome → AtRest (made (moves_back c p outcome) p)
@@ -207,11 +204,8 @@ pub given_back_rests : (fated : Fate) (c : ℕ) (p : Pooled) → AtRest p → is
 given_back_rests fated c p h may = placed (place_at p c) refl may
   where
     placed : (o : Option Place) → place_at p c ≡ o → is_lent o ≡ true → AtRest (made (moves_given_back fated c p) p)
-    placed None e k = cc
-    placed (Some Idle) e k = cc
-    placed (Some (Opening wanted)) e k = cc
-    placed (Some Closing) e k = cc
     placed (Some (Lent tenure owner)) e k = by_fate fated c p tenure owner h e
+    placed _ e k = cc
 
 pub house_rests : (c tenure : ℕ) (p : Pooled) → AtRest p → is_idle (place_at p c) ≡ true → AtRest (moved (Lend c tenure House 0) p)
 house_rests c tenure p h may = lend_rests c tenure 0 House p h (lend_enough c tenure 0 House p h (settling.idle_not_free (conn_of c p.conns) may))
@@ -241,18 +235,12 @@ shut_nearly c p h busy =
     }
 
 busy_opening : (o : Option Place) → is_opening o ≡ true → is_idle o ≡ false
-busy_opening None h = cc
-busy_opening (Some Idle) h = cc
-busy_opening (Some (Lent tenure owner)) h = cc
 busy_opening (Some (Opening wanted)) h = refl
-busy_opening (Some Closing) h = cc
+busy_opening _ h = cc
 
 busy_closing : (o : Option Place) → is_closing o ≡ true → is_idle o ≡ false
-busy_closing None h = cc
-busy_closing (Some Idle) h = cc
-busy_closing (Some (Lent tenure owner)) h = cc
-busy_closing (Some (Opening wanted)) h = cc
 busy_closing (Some Closing) h = refl
+busy_closing _ h = cc
 
 -- The pool is at rest after moves and the openings that they leave due.
 pub then_rests : (ms : List Move) (p : Pooled) → Nearly (made ms p) → AtRest (made (ms ++ openings_for_waiting (made ms p)) p)

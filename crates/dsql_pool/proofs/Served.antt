@@ -144,13 +144,7 @@ over_waits moment (Some r) counts = refl
 
 closed_waits : (cause : CloseCause) (counts : Counts) → (closed_for cause counts).waits ≡ counts.waits
 closed_waits for.Bad counts = refl
-closed_waits for.Invalid counts = refl
-closed_waits for.OverLimit counts = refl
-closed_waits for.IdleFull counts = refl
-closed_waits for.Lifetime counts = refl
-closed_waits for.IdleTime counts = refl
-closed_waits for.DbClosed counts = refl
-closed_waits for.Discarded counts = refl
+closed_waits _ counts = refl
 
 step_waits : (m : Move) (p : Pooled) → (moved m p).counts.waits ≡ p.counts.waits
 step_waits (Lend c tenure owner n) p = over_waits p.moment (request_of n p.waiting) p.counts

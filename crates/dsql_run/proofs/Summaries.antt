@@ -15,12 +15,10 @@ use Rattle.dsql_run.specs.declared.playing.Kept.{Kept}
 
 -- If the lines came to an end, the whole text was written.
 pub whole_piece : (r : Result (Unit {0}) Stop) (text : List ℕ) (w now : Option (List ℕ)) → IsLinesEnd r → now ≡ with_text w text → WritesPiece r text w now
-whole_piece (Ok done) text w now over is = is
-whole_piece (Err Read) text w now over is = is
 whole_piece (Err Write) text w now over is = absurd over
 whole_piece (Err Memory) text w now over is = absurd over
-whole_piece (Err (Refused number fault)) text w now over is = is
 whole_piece (Err Full) text w now over is = absurd over
+whole_piece _ text w now over is = is
 
 -- If no event was trimmed, the kept events are the whole history.
 pub all_kept : (past kept : List Event) → kept ≡ reverse past → reverse kept ≡ past
@@ -28,16 +26,12 @@ all_kept past kept all = ap reverse all ∙ reverse-reverse past
 
 -- A run whose report nobody keeps has no write fault.
 pub no_write_fault : (stopped : Result (Unit {0}) Stop) (before after : Seen) → IsPlayed stopped (unreported before) (unreported after) → is_write_fault stopped ≡ false
-no_write_fault (Ok done) before after played = refl
-no_write_fault (Err Read) before after played = refl
 no_write_fault (Err Write) before after (inl ran) = absurd (never (ran.write_fault refl))
   where
     never : HasRisen 0 0 → ⊥
     never risen = cc risen
 no_write_fault (Err Write) before after (inr none) = absurd (cc none.memory)
-no_write_fault (Err Memory) before after played = refl
-no_write_fault (Err (Refused number fault)) before after played = refl
-no_write_fault (Err Full) before after played = refl
+no_write_fault _ before after played = refl
 
 -- If a piece of the summary was written, its text counts the lines that were read.
 so_many : (stopped told : Result (Unit {0}) Stop) (before after : Seen) (past : List Event) (lines : ℕ) → Finishes stopped told → (r : RanSo stopped (unreported before) (unreported after) past lines)
@@ -48,16 +42,14 @@ so_many stopped told before after past lines finishes r writes = by told stopped
     same counted = ap (λ n. line_of (summary_of n past)) (sym counted) ∙ ap (λ h. line_of (summary_of (length r.ran.lines) h)) (sym r.is)
 
     ends : (played : Result (Unit {0}) Stop) → Finishes played (Err Write) → is_write_fault played ≡ false → IsLinesEnd played
-    ends (Ok done) f unfailed = tt
-    ends (Err Read) f unfailed = tt
     ends (Err Write) f unfailed = absurd (cc unfailed)
     ends (Err Memory) (inl is) unfailed = absurd (cc is)
     ends (Err Memory) (inr (inl is)) unfailed = absurd (cc is)
     ends (Err Memory) (inr (inr write)) unfailed = absurd (cc write.1)
-    ends (Err (Refused number fault)) f unfailed = tt
     ends (Err Full) (inl is) unfailed = absurd (cc is)
     ends (Err Full) (inr (inl is)) unfailed = absurd (cc is)
     ends (Err Full) (inr (inr write)) unfailed = absurd (cc write.1)
+    ends _ f unfailed = tt
 
     over : (now played : Result (Unit {0}) Stop) → Finishes played now → IsLinesEnd now → IsLinesEnd played
     over now played (inl is) end = subst IsLinesEnd is end

@@ -22,18 +22,13 @@ none_told (Some told) caps =
 read_ran : (r : Result (Unit {0}) Stop) → no_read_failed r ≡ true → ran_out r ≡ true
 read_ran (Ok done) h = refl
 read_ran (Err (Refused number fault)) h = refl
-read_ran (Err Read) h = absurd (cc h)
-read_ran (Err Write) h = absurd (cc h)
-read_ran (Err Memory) h = absurd (cc h)
-read_ran (Err Full) h = absurd (cc h)
+read_ran (Err _) h = absurd (cc h)
 
 write_ran : (r : Result (Unit {0}) Stop) → no_write_failed r ≡ true → ran_out r ≡ true
-write_ran (Ok done) h = refl
-write_ran (Err (Refused number fault)) h = refl
-write_ran (Err Read) h = refl
 write_ran (Err Write) h = absurd (cc h)
 write_ran (Err Memory) h = absurd (cc h)
 write_ran (Err Full) h = absurd (cc h)
+write_ran _ h = refl
 
 -- If the last stop shows no failed read or write, none failed as the lines were played.
 pub read_played : (played ended final : Result (Unit {0}) Stop) → (ran_out ended ≡ true → ended ≡ played) → Finishes ended final → no_read_failed final ≡ true → no_read_failed played ≡ true
@@ -51,17 +46,9 @@ written_played played ended final same (inr (inl memory)) well = absurd (cc (sub
 written_played played ended final same (inr (inr write)) well = absurd (cc (subst (λ (r : Result (Unit {0}) Stop). no_write_failed r ≡ true) write.0 well))
 
 pub not_read : (r : Result (Unit {0}) Stop) → no_read_failed r ≡ true → is_read_fault r ≡ false
-not_read (Ok done) h = refl
-not_read (Err (Refused number fault)) h = refl
 not_read (Err Read) h = absurd (cc h)
-not_read (Err Write) h = refl
-not_read (Err Memory) h = refl
-not_read (Err Full) h = refl
+not_read _ h = refl
 
 pub not_written : (r : Result (Unit {0}) Stop) → no_write_failed r ≡ true → is_write_fault r ≡ false
-not_written (Ok done) h = refl
-not_written (Err (Refused number fault)) h = refl
-not_written (Err Read) h = refl
 not_written (Err Write) h = absurd (cc h)
-not_written (Err Memory) h = refl
-not_written (Err Full) h = refl
+not_written _ h = refl

@@ -21,7 +21,7 @@ use Rattle.dsql_script_show.specs.Report.{oldest, Shows, StopsBetween}
 use Rattle.dsql_script_source.specs.Plays.{Plays}
 use Rattle.dsql_script_source.specs.Script.{Said}
 use Rattle.dsql_script_source.specs.declared.stop.Stop.{Stop}
-use Rattle.dsql_script_source.specs.declared.stop.Stop.TheVariants.{Read, Write, Memory, Refused, Full}
+use Rattle.dsql_script_source.specs.declared.stop.Stop.TheVariants.{Read, Write, Memory, Full}
 use Rattle.dsql_run_outcome.specs.Followed.{FollowsAll}
 use Rattle.dsql_run_outcome.specs.Lent.{Lent, StopsAsking}
 use Rattle.dsql_run_outcome.specs.Runs.{CutAtEnd, CutAtLine, Finishes, IsLinesEnd, Wrote, is_write_fault, ran_out, wanted_memory}
@@ -38,37 +38,24 @@ so_ran ended final (inr (inl memory)) is = absurd (cc (sym memory ∙ is))
 so_ran ended final (inr (inr write)) is = write.1
 
 pub failed_is : (r : Result (Unit {0}) Stop) → is_write_fault r ≡ true → r ≡ Err Write
-failed_is (Ok done) is = absurd (cc is)
-failed_is (Err Read) is = absurd (cc is)
 failed_is (Err Write) is = refl
-failed_is (Err Memory) is = absurd (cc is)
-failed_is (Err (Refused number fault)) is = absurd (cc is)
-failed_is (Err Full) is = absurd (cc is)
+failed_is _ is = absurd (cc is)
 
 -- If a run goes on and no write failed, its lines have come to an end.
 lines_over : (played : Result (Unit {0}) Stop) → ran_out played ≡ true → is_write_fault played ≡ false → IsLinesEnd played
-lines_over (Ok done) ran unfailed = tt
-lines_over (Err Read) ran unfailed = tt
 lines_over (Err Write) ran unfailed = absurd (cc unfailed)
 lines_over (Err Memory) ran unfailed = absurd (cc ran)
-lines_over (Err (Refused number fault)) ran unfailed = tt
 lines_over (Err Full) ran unfailed = absurd (cc ran)
+lines_over _ ran unfailed = tt
 
 ends_ran : (r : Result (Unit {0}) Stop) → IsLinesEnd r → ran_out r ≡ true
-ends_ran (Ok done) over = refl
-ends_ran (Err Read) over = refl
-ends_ran (Err Write) over = refl
 ends_ran (Err Memory) over = absurd over
-ends_ran (Err (Refused number fault)) over = refl
 ends_ran (Err Full) over = absurd over
+ends_ran _ over = refl
 
 not_wanting : (played : Result (Unit {0}) Stop) → ran_out played ≡ true → wanted_memory played ≡ false
-not_wanting (Ok done) ran = refl
-not_wanting (Err Read) ran = refl
-not_wanting (Err Write) ran = refl
 not_wanting (Err Memory) ran = absurd (cc ran)
-not_wanting (Err (Refused number fault)) ran = refl
-not_wanting (Err Full) ran = refl
+not_wanting _ ran = refl
 
 -- If a write fails as the run ends, the events of its lines had been written before.
 pub shown_before_end : (played ended final : Result (Unit {0}) Stop) (w mid : Option (List ℕ)) (n : ℕ) (rest past : List Event) → (ran_out ended ≡ true → ended ≡ played) → Finishes ended final → final ≡ Err Write
@@ -78,12 +65,10 @@ shown_before_end played ended final w mid n rest past same finishes is unfailed 
     shows_of_wrote played w mid n past unfailed (not_wanting played ran) (wrote_older played w mid n rest past goes_on within wrote)
 
 plays_ended : (played ended : Result (Unit {0}) Stop) (bytes rest : Option (List ℕ)) (says : Said) → (ran_out ended ≡ true → ended ≡ played) → Plays played bytes rest says → Plays ended bytes rest says
-plays_ended played (Ok done) bytes rest says same plays = subst (λ r. Plays r bytes rest says) (sym (same refl)) plays
-plays_ended played (Err Read) bytes rest says same plays = subst (λ r. Plays r bytes rest says) (sym (same refl)) plays
 plays_ended played (Err Write) bytes rest says same plays = plays_first played bytes rest says plays
 plays_ended played (Err Memory) bytes rest says same plays = plays_first played bytes rest says plays
-plays_ended played (Err (Refused number fault)) bytes rest says same plays = subst (λ r. Plays r bytes rest says) (sym (same refl)) plays
 plays_ended played (Err Full) bytes rest says same plays = plays_first played bytes rest says plays
+plays_ended played _ bytes rest says same plays = subst (λ r. Plays r bytes rest says) (sym (same refl)) plays
 
 -- By its last stop too, a run has of its script what it had when its lines were played.
 pub plays_finished : (played ended final : Result (Unit {0}) Stop) (bytes rest : Option (List ℕ)) (says : Said) → (ran_out ended ≡ true → ended ≡ played) → Finishes ended final → Plays played bytes rest says → Plays final bytes rest says

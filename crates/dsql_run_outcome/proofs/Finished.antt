@@ -19,32 +19,23 @@ front_all w now text is = record { front = text; begins = record { rest = []; pa
 
 -- Whatever stopped a run, what was written is a beginning of its report.
 front_of_wrote : (r : Result (Unit {0}) Stop) (w now : Option (List ℕ)) (n : ℕ) (past : List Event) → Wrote r w n past now → ShowsFront w (text_of past) now
-front_of_wrote (Ok done) w now n past wrote = front_of_shown w now n past wrote
-front_of_wrote (Err Read) w now n past wrote = front_of_shown w now n past wrote
 front_of_wrote (Err Write) w now n past wrote = wrote
 front_of_wrote (Err Memory) w now n past wrote = wrote
-front_of_wrote (Err (Refused number fault)) w now n past wrote = front_of_shown w now n past wrote
-front_of_wrote (Err Full) w now n past wrote = front_of_shown w now n past wrote
+front_of_wrote _ w now n past wrote = front_of_shown w now n past wrote
 
 pub shows_of_wrote : (r : Result (Unit {0}) Stop) (w now : Option (List ℕ)) (n : ℕ) (past : List Event) → is_write_fault r ≡ false → wanted_memory r ≡ false → Wrote r w n past now → Shows w n past now
-shows_of_wrote (Ok done) w now n past f m wrote = wrote
-shows_of_wrote (Err Read) w now n past f m wrote = wrote
 shows_of_wrote (Err Write) w now n past f m wrote = absurd (cc f)
 shows_of_wrote (Err Memory) w now n past f m wrote = absurd (cc m)
-shows_of_wrote (Err (Refused number fault)) w now n past f m wrote = wrote
-shows_of_wrote (Err Full) w now n past f m wrote = wrote
+shows_of_wrote _ w now n past f m wrote = wrote
 
 shows_older : (w now : Option (List ℕ)) (n : ℕ) (old new : List Event) → Extends old new → n ≤ length old → Shows w n old now → Shows w n new now
 shows_older w now n old new e within shows = shows ∙ rw (oldest_older n old new e within) refl
 
 -- If the history grows and nothing is written, what was written fits the longer history too.
 pub wrote_older : (r : Result (Unit {0}) Stop) (w now : Option (List ℕ)) (n : ℕ) (old new : List Event) → Extends old new → n ≤ length old → Wrote r w n old now → Wrote r w n new now
-wrote_older (Ok done) w now n old new e within wrote = shows_older w now n old new e within wrote
-wrote_older (Err Read) w now n old new e within wrote = shows_older w now n old new e within wrote
 wrote_older (Err Write) w now n old new e within wrote = front_of_older w now old new e wrote
 wrote_older (Err Memory) w now n old new e within wrote = front_of_older w now old new e wrote
-wrote_older (Err (Refused number fault)) w now n old new e within wrote = shows_older w now n old new e within wrote
-wrote_older (Err Full) w now n old new e within wrote = shows_older w now n old new e within wrote
+wrote_older _ w now n old new e within wrote = shows_older w now n old new e within wrote
 
 full_front : (faulty : Bool) (w now : Option (List ℕ)) (past : List Event) → faulty ≡ true → ShowsFront w (text_of past) now → Writes (Err Full) faulty w past now
 full_front true w now past is front = front
@@ -79,13 +70,9 @@ writes_full false w now past is = is
 
 -- One more fault in a later step is one more fault in all.
 pub writes_more : (r : Result (Unit {0}) Stop) (one all : Bool) (w now : Option (List ℕ)) (past : List Event) → (one ≡ true → all ≡ true) → Writes r one w past now → Writes r all w past now
-writes_more (Ok done) one all w now past more writes = writes
-writes_more (Err Read) one all w now past more writes = writes
-writes_more (Err Write) one all w now past more writes = writes
-writes_more (Err Memory) one all w now past more writes = writes
-writes_more (Err (Refused number fault)) one all w now past more writes = writes
 writes_more (Err Full) true all w now past more writes = full_front all w now past (more refl) writes
 writes_more (Err Full) false all w now past more writes = writes_full all w now past writes
+writes_more _ one all w now past more writes = writes
 
 split_or : (a b : Bool) → (a || b) ≡ true → (a ≡ true) ⊎ (b ≡ true)
 split_or true b h = inl refl
@@ -105,9 +92,5 @@ risen_earlier a b c le h = elim (split_or (nat_lt b c) (nat_le last_count c) h) 
 
 -- If the sink failed at the lines or at the end, its count of faults rose over the whole run.
 pub all_risen : (r : Result (Unit {0}) Stop) (a b c : ℕ) → a ≤ b → b ≤ c → (r ≡ Err Write → HasRisen a b) → (is_write_fault r || has_risen b c) ≡ true → has_risen a c ≡ true
-all_risen (Ok done) a b c one two caused h = risen_earlier a b c one h
-all_risen (Err Read) a b c one two caused h = risen_earlier a b c one h
 all_risen (Err Write) a b c one two caused h = risen_later a b c two (caused refl)
-all_risen (Err Memory) a b c one two caused h = risen_earlier a b c one h
-all_risen (Err (Refused number fault)) a b c one two caused h = risen_earlier a b c one h
-all_risen (Err Full) a b c one two caused h = risen_earlier a b c one h
+all_risen _ a b c one two caused h = risen_earlier a b c one h

@@ -21,15 +21,13 @@ use Rattle.dsql_run_outcome.specs.Runs.{IsPlayStop}
 
 -- Whatever became of its report, the script says first what a run has of it.
 pub plays_first : (r : Result (Unit {0}) Stop) (left rest : Option (List ℕ)) (says : Said) → Plays r left rest says → SaysFirst left says
-plays_first (Ok done) None rest says plays = tt
 plays_first (Ok done) (Some bytes) rest says plays = record { rest = nothing; parts = rw plays (sym (then-nothing says)); asked = inr refl }
-plays_first (Err Read) None rest says plays = tt
 plays_first (Err Read) (Some bytes) rest says plays = first_of_read bytes rest says plays
 plays_first (Err Write) left rest says plays = plays
 plays_first (Err Memory) left rest says plays = plays
 plays_first (Err Full) left rest says plays = plays
-plays_first (Err (Refused number fault)) None rest says plays = tt
 plays_first (Err (Refused number fault)) (Some bytes) rest says plays = record { rest = nothing; parts = rw plays (sym (then-nothing says)); asked = inr refl }
+plays_first _ None rest says plays = tt
 
 -- A run that stops in a line has the first lines of its script.
 pub first_plays : (stop : Stop) (left rest : Option (List ℕ)) (says : Said) → IsPlayStop stop → SaysFirst left says → Plays (Err stop) left rest says

@@ -14,10 +14,7 @@ use Rattle.dsql_script_source.specs.declared.stop.Stop.TheVariants.{Read, Write,
 
 no_stop : (stop : Stop) → status_of stop ≡ 0 → ⊥
 no_stop Read is = cc is
-no_stop Write is = cc is
-no_stop Memory is = cc is
-no_stop (Refused number fault) is = cc is
-no_stop Full is = cc is
+no_stop _ is = cc is
 
 no_cut : (stop : Stop) (fault : ShowFault) → failed_status stop fault ≡ 0 → ⊥
 no_cut stop shows.Memory is = cc is
@@ -68,10 +65,7 @@ whole_at_zero before after one two status is p =
 
 status_is_known : (stop : Stop) → is_status (status_of stop) ≡ true
 status_is_known Read = refl
-status_is_known Write = refl
-status_is_known Memory = refl
-status_is_known (Refused number fault) = refl
-status_is_known Full = refl
+status_is_known _ = refl
 
 failed_status_is_known : (stop : Stop) (fault : ShowFault) → is_status (failed_status stop fault) ≡ true
 failed_status_is_known stop shows.Memory = refl
@@ -166,11 +160,8 @@ full_of_status _ is = absurd (cc is)
 
 full_of_cut : (stop : Stop) (fault : ShowFault) → failed_status stop fault ≡ 10 → stop ≡ Full
 full_of_cut stop shows.Memory is = absurd (cc is)
-full_of_cut Read shows.Failed is = absurd (cc is)
-full_of_cut Write shows.Failed is = absurd (cc is)
-full_of_cut Memory shows.Failed is = absurd (cc is)
-full_of_cut (Refused number fault) shows.Failed is = absurd (cc is)
 full_of_cut Full shows.Failed is = refl
+full_of_cut _ shows.Failed is = absurd (cc is)
 
 pub stopped_at_ten : (stopped : Result (Unit {0}) Stop) (risen : Bool) (w now : Option (List ℕ)) (status : ℕ) → status ≡ 10 → Tells stopped risen w now status → stopped ≡ Err Full
 stopped_at_ten (Ok done) risen w now status is told = absurd (cc (sym is ∙ told.0))

@@ -11,7 +11,7 @@ use Rattle.dsql_script_report.specs.Lines.{text_of}
 use Rattle.dsql_script_show.specs.Report.{with_text, ShowsFront, StopsBetween, oldest, Shows}
 use Rattle.dsql_script_show.proofs.Texts.{text_on}
 use Rattle.dsql_script_source.specs.declared.stop.Stop.{Stop}
-use Rattle.dsql_script_source.specs.declared.stop.Stop.TheVariants.{Read, Write, Memory, Refused, Full}
+use Rattle.dsql_script_source.specs.declared.stop.Stop.TheVariants.{Write, Memory, Full}
 use Rattle.dsql_run_outcome.specs.Runs.{IsPlayStop, IsShowStop, Wrote, stop_of_halt}
 
 pub no_text : (w : Option (List ℕ)) → with_text w [] ≡ w
@@ -67,11 +67,9 @@ front_of_stop w now least text stop = record { front = stop.front; begins = stop
 pub wrote_shown : (r : Result (Unit {0}) Stop) (w now : Option (List ℕ)) (n m : ℕ) (past : List Event) → IfErr r IsShowStop → OnOk r (n ≡ length past) → OnOk r (now ≡ with_text w (text_of past))
     → OnErr r (StopsBetween w (text_of (oldest m past)) (text_of past) now) → Wrote r w n past now
 wrote_shown (Ok done) w now n m past kind all is stop = wrote_all w now n past all is
-wrote_shown (Err Read) w now n m past kind all is stop = absurd kind
 wrote_shown (Err Write) w now n m past kind all is stop = front_of_stop w now (text_of (oldest m past)) (text_of past) stop
 wrote_shown (Err Memory) w now n m past kind all is stop = front_of_stop w now (text_of (oldest m past)) (text_of past) stop
-wrote_shown (Err (Refused number fault)) w now n m past kind all is stop = absurd kind
-wrote_shown (Err Full) w now n m past kind all is stop = absurd kind
+wrote_shown (Err _) w now n m past kind all is stop = absurd kind
 
 -- What stops events from being shown also stops a line.
 pub show_stops : (stop : Stop) → IsShowStop stop → IsPlayStop stop
@@ -85,12 +83,9 @@ shown_kinds (Err stop) kind = show_stops stop kind
 
 -- If all events were shown, what was written is right, whatever stops the run then.
 pub wrote_at_rest : (r : Result (Unit {0}) Stop) (w now : Option (List ℕ)) (n : ℕ) (past : List Event) → n ≡ length past → now ≡ with_text w (text_of past) → Wrote r w n past now
-wrote_at_rest (Ok done) w now n past all is = is ∙ rw (all, oldest_all past) refl
-wrote_at_rest (Err Read) w now n past all is = is ∙ rw (all, oldest_all past) refl
 wrote_at_rest (Err Write) w now n past all is = record { front = text_of past; begins = record { rest = []; parts = sym (append-nil (text_of past)) }; written = is }
 wrote_at_rest (Err Memory) w now n past all is = record { front = text_of past; begins = record { rest = []; parts = sym (append-nil (text_of past)) }; written = is }
-wrote_at_rest (Err (Refused number fault)) w now n past all is = is ∙ rw (all, oldest_all past) refl
-wrote_at_rest (Err Full) w now n past all is = is ∙ rw (all, oldest_all past) refl
+wrote_at_rest _ w now n past all is = is ∙ rw (all, oldest_all past) refl
 
 pub all_shown : (w now : Option (List ℕ)) (n : ℕ) (past : List Event) → n ≡ length past → Shows w n past now → now ≡ with_text w (text_of past)
 all_shown w now n past all shows = shows ∙ rw (all, oldest_all past) refl

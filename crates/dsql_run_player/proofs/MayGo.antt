@@ -6,7 +6,7 @@ use Rattle.dsql_engine_laws.specs.journal.Readers.{is_empty}
 use Rattle.dsql_engine_laws.specs.history.declared.event.Event.{Event}
 use Rattle.dsql_engine_laws.specs.history.declared.record.Flight.{Flight}
 use Rattle.dsql_engine_laws.specs.history.declared.record.Stand.{Stand}
-use Rattle.dsql_engine_laws.specs.history.declared.record.Stand.TheVariants.{Waits, Opens, Sends, Replies, Asks}
+use Rattle.dsql_engine_laws.specs.history.declared.record.Stand.TheVariants.{Sends}
 use Rattle.dsql_engine_laws.specs.history.Readers.Calls.{is_busy}
 use Rattle.dsql_engine_laws.specs.history.Readers.Clients.{call_of}
 use Rattle.dsql_engine_laws.specs.history.Readers.Unfinished.{is_unfinished}
@@ -33,11 +33,7 @@ unblocked flights n (Some (Sends c)) = by (is_taken n c flights)
     by : (b : Bool) → is_none (cond b (Some (Turn c)) None) ≡ not b
     by true = refl
     by false = refl
-unblocked flights n (Some Waits) = refl
-unblocked flights n (Some (Opens c)) = refl
-unblocked flights n (Some Replies) = refl
-unblocked flights n (Some Asks) = refl
-unblocked flights n None = refl
+unblocked flights n _ = refl
 
 call_moves : (past : List Event) (flights : List Flight) (n : ℕ) → is_unfinished past n ≡ true → is_none (blocked_call past flights n) ≡ may_move past flights n
 call_moves past flights n u = by (is_in_flight n flights) ∙ ap (λ b. b && (is_in_flight n flights || not (is_blocked flights n (stand past n)))) (sym u)

@@ -10,7 +10,7 @@ use Rattle.dsql_engine_laws.specs.journal.Permits.{entry_of}
 use Rattle.dsql_engine_laws.specs.history.declared.event.Event.{Event}
 use Rattle.dsql_engine_laws.specs.history.declared.record.Flight.{Flight}
 use Rattle.dsql_engine_laws.specs.history.declared.record.Stand.{Stand}
-use Rattle.dsql_engine_laws.specs.history.declared.record.Stand.TheVariants.{Waits, Opens, Sends, Replies, Asks}
+use Rattle.dsql_engine_laws.specs.history.declared.record.Stand.TheVariants.{Sends}
 use Rattle.dsql_engine_laws.specs.history.Readers.Calls.{is_busy}
 use Rattle.dsql_engine_laws.specs.history.Readers.Clients.{call_of}
 use Rattle.dsql_engine_laws.specs.history.Readers.Unfinished.{is_unfinished}
@@ -60,11 +60,7 @@ parked_with m n c flights apart h = by (is_in_flight n flights || has_flight c f
 
 parked_on : (m n : ℕ) (at : Option Stand) (flights : List Flight) → m ≢ n → is_in_flight m flights ≡ false → is_in_flight m (permitted n at flights) ≡ false
 parked_on m n (Some (Sends c)) flights apart h = parked_with m n c flights apart h
-parked_on m n (Some Waits) flights apart h = h
-parked_on m n (Some (Opens c)) flights apart h = h
-parked_on m n (Some Replies) flights apart h = h
-parked_on m n (Some Asks) flights apart h = h
-parked_on m n None flights apart h = h
+parked_on m n _ flights apart h = h
 
 parked_landed : (m n : ℕ) (flights : List Flight) → is_in_flight m flights ≡ false → is_in_flight m (without_flight n flights) ≡ false
 parked_landed m n [] h = h

@@ -8,7 +8,7 @@ use Rattle.dsql_engine_laws.specs.history.declared.event.Event.{Event}
 use Rattle.dsql_engine_laws.specs.history.declared.event.Op.{Op}
 use Rattle.dsql_engine_laws.specs.history.declared.record.Flight.{Flight}
 use Rattle.dsql_engine_laws.specs.history.declared.record.Stand.{Stand}
-use Rattle.dsql_engine_laws.specs.history.declared.record.Stand.TheVariants.{Waits, Opens, Sends, Replies, Asks}
+use Rattle.dsql_engine_laws.specs.history.declared.record.Stand.TheVariants.{Waits, Sends, Replies, Asks}
 use Rattle.dsql_engine_laws.specs.history.Legal.{Lawful}
 use Rattle.dsql_engine_laws.specs.history.Readers.Calls.{is_busy, reply_due, site}
 use Rattle.dsql_engine_laws.specs.history.Readers.Clients.{call_of}
@@ -108,11 +108,7 @@ answer_steps m old new client lawful at busy flies step =
 -- If a call got a permit by going on, its driver call was due.
 pub sends_there : (n : ℕ) (at : Option Stand) (flights : List Flight) → is_in_flight n flights ≡ false → is_in_flight n (permitted n at flights) ≡ true → (c : ℕ) × (at ≡ Some (Sends c))
 sends_there n (Some (Sends c)) flights none some = (c, refl)
-sends_there n (Some Waits) flights none some = absurd cc
-sends_there n (Some (Opens c)) flights none some = absurd cc
-sends_there n (Some Replies) flights none some = absurd cc
-sends_there n (Some Asks) flights none some = absurd cc
-sends_there n None flights none some = absurd cc
+sends_there n _ flights none some = absurd cc
 
 flies_with_leave : (past : List Event) (flights : List Flight) (n : ℕ) (permit : Option Permit) → is_some permit ≡ true → FitsCall past flights n permit → is_in_flight n flights ≡ true
 flies_with_leave past flights n None some fits = absurd cc
@@ -153,11 +149,7 @@ gone_nowhere past n due = unless (is_unfinished past n) (is_some (due_for past n
 
 sending_at : (past : List Event) (n : ℕ) (at : Option Stand) → stand past n ≡ at → is_sending at ≡ true → is_some (due_for past n) ≡ true
 sending_at past n (Some (Sends c)) is h = sends_due past n c is
-sending_at past n (Some Waits) is h = absurd cc
-sending_at past n (Some (Opens c)) is h = absurd cc
-sending_at past n (Some Replies) is h = absurd cc
-sending_at past n (Some Asks) is h = absurd cc
-sending_at past n None is h = absurd cc
+sending_at past n _ is h = absurd cc
 
 -- If a call that goes on by itself shows it, its driver call wasn't due.
 shows_elsewhere : (past new : List Event) (n : ℕ) → new ≡ gone_on n past → length past < length new → is_sending (stand past n) ≡ false

@@ -1,11 +1,11 @@
 -- Proves at which moment the player stands after a step. The argument builds that moment from the moment before
 -- the step and the step's events.
-use Rattle.std.proofs.Common.{◌≡◌, ◌≢◌, inl, inr, ℕ, ◌==◌, Bool, true, false, not, ◌&&◌, ◌||◌, cond, List, [], ◌∷◌, ◌++◌, Option, Some, None, refl, ap, sym, subst, ◌∙◌}
+use Rattle.std.proofs.Common.{◌≡◌, ◌≢◌, inl, inr, ℕ, ◌==◌, Bool, true, false, not, ◌&&◌, ◌||◌, cond, List, [], ◌∷◌, ◌++◌, Option, Some, refl, ap, sym, subst, ◌∙◌}
 use Rattle.dsql_engine_laws.specs.history.declared.event.Event.{Event}
 use Rattle.dsql_engine_laws.specs.history.declared.event.Event.TheVariants.{Entered, Heard}
 use Rattle.dsql_engine_laws.specs.history.declared.record.Flight.{Flight}
 use Rattle.dsql_engine_laws.specs.history.declared.record.Stand.{Stand}
-use Rattle.dsql_engine_laws.specs.history.declared.record.Stand.TheVariants.{Waits, Opens, Sends, Replies, Asks}
+use Rattle.dsql_engine_laws.specs.history.declared.record.Stand.TheVariants.{Sends}
 use Rattle.dsql_engine_laws.specs.history.Readers.Calls.{is_busy}
 use Rattle.dsql_engine_laws.specs.history.Readers.Clients.{is_free}
 use Rattle.dsql_engine_laws.specs.history.Rules.Flights.{has_flight, is_in_flight, permitted, without_flight}
@@ -59,11 +59,7 @@ landed_alike n (Some (Sends c)) flights = by (is_in_flight n flights || has_flig
     by : (b : Bool) → without_flight n (cond b flights (flights ++ record { call = n; conn = c } ∷ [])) ≡ without_flight n flights
     by true = refl
     by false = without_more n c flights
-landed_alike n (Some Waits) flights = refl
-landed_alike n (Some (Opens c)) flights = refl
-landed_alike n (Some Replies) flights = refl
-landed_alike n (Some Asks) flights = refl
-landed_alike n None flights = refl
+landed_alike n _ flights = refl
 
 -- Holds if the call has gone as far as it can.
 abbrev pub HasGoneFar : List Event → List Flight → ℕ → Type 0

@@ -9,7 +9,7 @@ use Rattle.dsql_engine_laws.specs.history.declared.event.Event.{Event}
 use Rattle.dsql_engine_laws.specs.history.declared.event.Event.TheVariants.{Ended}
 use Rattle.dsql_engine_laws.specs.history.declared.record.Flight.{Flight}
 use Rattle.dsql_engine_laws.specs.history.declared.record.Stand.{Stand}
-use Rattle.dsql_engine_laws.specs.history.declared.record.Stand.TheVariants.{Waits, Opens, Sends, Replies, Asks}
+use Rattle.dsql_engine_laws.specs.history.declared.record.Stand.TheVariants.{Waits, Opens, Sends}
 use Rattle.dsql_engine_laws.specs.history.Readers.Calls.{is_busy}
 use Rattle.dsql_engine_laws.specs.history.Readers.Clients.{call_of}
 use Rattle.dsql_engine_laws.specs.history.Readers.Course.{has_ended}
@@ -53,9 +53,7 @@ no_reason : (flights : List Flight) (n : ℕ) (at : Option Stand) → is_blocked
 no_reason flights n (Some Waits) h = absurd cc
 no_reason flights n (Some (Opens c)) h = absurd cc
 no_reason flights n (Some (Sends c)) h = ap (λ b. cond b (Some (Turn c)) None) h
-no_reason flights n (Some Replies) h = refl
-no_reason flights n (Some Asks) h = refl
-no_reason flights n None h = refl
+no_reason flights n _ h = refl
 
 sent : (permit : Option Permit) (next : Next) → option_map Send permit ≡ Some next → is_some (leave_of next) ≡ true
 sent None next h = absurd cc

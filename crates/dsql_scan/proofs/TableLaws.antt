@@ -4,7 +4,6 @@ use Rattle.std.specs.Str.{is_utf8}
 use Rattle.std.proofs.lemmas.Bool.{cond-true, cond-false, eq-eqb, ne_eqb}
 use Rattle.dsql_value.specs.declared.value.Value.{Value}
 use Rattle.dsql_value.specs.declared.value.Value.TheVariants.{Nil, Int, Bytes, Text, Time}
-use Rattle.dsql_value.specs.declared.value.Value.TheVariants as values
 use Rattle.dsql_scan.specs.declared.cell.Cell.{Cell}
 use Rattle.dsql_scan.specs.declared.cell.Cell.TheVariants as cells
 use Rattle.dsql_scan.specs.declared.dest.Dest.{Dest}
@@ -54,11 +53,7 @@ text-told _ = refl
 
 bytes-told : (value : Value) → is_told (bytes_of value) ≡ true
 bytes-told Nil = refl
-bytes-told (Int n) = refl
-bytes-told (values.Bool b) = refl
-bytes-told (Bytes bytes) = refl
-bytes-told (Text text) = refl
-bytes-told (Time t) = refl
+bytes-told _ = refl
 
 truth_cell-told : (truth : Option Bool) → is_told (truth_cell truth) ≡ true
 truth_cell-told None = refl
@@ -102,19 +97,11 @@ unsigned-told dest greatest _ = refl
 
 time-told : (value : Value) → is_told (time_of value) ≡ true
 time-told Nil = refl
-time-told (Int n) = refl
-time-told (values.Bool b) = refl
-time-told (Bytes bytes) = refl
-time-told (Text text) = refl
-time-told (Time t) = refl
+time-told _ = refl
 
 any-told : (value : Value) → is_told (any_of value) ≡ true
 any-told Nil = refl
-any-told (Int n) = refl
-any-told (values.Bool b) = refl
-any-told (Bytes bytes) = refl
-any-told (Text text) = refl
-any-told (Time t) = refl
+any-told _ = refl
 
 column-told : (value : Value) (dest : Dest) → is_told (column_of value dest) ≡ true
 column-told value dests.Bytes = bytes-told value

@@ -61,11 +61,7 @@ cell_is_read (cell.Time n) fits = arg_is_read (arg.Time n) fits
 -- The data of a value have no member `name`.
 nameless : (v : Value) → get (codes "name") (value_data v) ≡ None
 nameless value.Nil = refl
-nameless (value.Int n) = refl
-nameless (value.Bool b) = refl
-nameless (value.Bytes bytes) = refl
-nameless (value.Text text) = refl
-nameless (value.Time n) = refl
+nameless _ = refl
 
 with_name : (name : Option (List ℕ)) (v : Value) → ValueFits v → param_of (named_data name (value_data v)) ≡ Some (parameter name v)
 with_name None v fits = ap (λ o. param_by o (value_data v)) (nameless v) ∙ ap (option_map (parameter None)) (value_is_read_back v fits)

@@ -79,35 +79,23 @@ module _ (text : List ℕ) (args : List Named) (array : List ℕ) (may : MayBeGi
 pub call_is_read : (o : Op) (array : Option (List ℕ)) → MayBeAsked o → Spells array (op_data o) → call_of (spaced_words (op_words o)) array ≡ Ok o
 call_is_read (op.Exec target text args) (Some array) may seen =
     ap (λ words. call_of words (Some array)) (words_of_exec target may.0) ∙ exec_is_read text args array may.1 seen target may.0
-call_is_read (op.Exec target text args) None may seen = absurd seen
 call_is_read (op.Query label target text args) (Some array) may seen =
     ap (λ words. call_of words (Some array)) (words_of_query label target may.0 may.1) ∙ query_is_read text args array may.2 seen label target may.0 may.1
-call_is_read (op.Query label target text args) None may seen = absurd seen
 call_is_read (op.One target dests text args) (Some array) may seen =
     ap (λ words. call_of words (Some array)) (words_of_one target dests may.0) ∙ one_is_read text args array may.2 seen target dests may.0 may.1
-call_is_read (op.One target dests text args) None may seen = absurd seen
 call_is_read (op.Next rows) None may seen = ap (λ words. call_of (codes "next" ∷ words) None) (words_of_rows rows may) ∙ rw may refl
-call_is_read (op.Next rows) (Some array) may seen = absurd seen
 call_is_read (op.Scan rows dests) None may seen =
     ap (λ words. call_of words None) (words_of_scan rows dests may.0)
     ∙ rw (may.0, dests_are_read_back dests may.1.0, le-ltb most_args (length dests) may.1.1) refl
-call_is_read (op.Scan rows dests) (Some array) may seen = absurd seen
 call_is_read (op.RowsClose rows) None may seen = ap (λ words. call_of (codes "rowsclose" ∷ words) None) (words_of_rows rows may) ∙ rw may refl
-call_is_read (op.RowsClose rows) (Some array) may seen = absurd seen
 call_is_read (op.Err rows) None may seen = ap (λ words. call_of (codes "err" ∷ words) None) (words_of_rows rows may) ∙ rw may refl
-call_is_read (op.Err rows) (Some array) may seen = absurd seen
 call_is_read (op.Begin label level read_only) None may seen = begin_is_read_back label level read_only may
-call_is_read (op.Begin label level read_only) (Some array) may seen = absurd seen
 call_is_read (op.Commit tx) None may seen = ap (λ words. call_of (codes "commit" ∷ words) None) (words_of_rows tx may) ∙ rw may refl
-call_is_read (op.Commit tx) (Some array) may seen = absurd seen
 call_is_read (op.Rollback tx) None may seen = ap (λ words. call_of (codes "rollback" ∷ words) None) (words_of_rows tx may) ∙ rw may refl
-call_is_read (op.Rollback tx) (Some array) may seen = absurd seen
 call_is_read op.Ping None may seen = refl
-call_is_read op.Ping (Some array) may seen = absurd seen
 call_is_read op.DbClose None may seen = refl
-call_is_read op.DbClose (Some array) may seen = absurd seen
 call_is_read op.Stats None may seen = refl
-call_is_read op.Stats (Some array) may seen = absurd seen
+call_is_read _ _ may seen = absurd seen
 
 -- A word for a client isn't the first word of another form.
 other : (word name : List ℕ) (client : ℕ) → client_of word ≡ Some client → client_of name ≡ None → bytes_eq word name ≡ false

@@ -52,9 +52,7 @@ limit_words MaxIdleTime number none = ap (λ words. codes "maxidletime" ∷ word
 
 limit_lacks : (setting : Setting) (number : List ℕ) → Lacks bracket number → Lacks bracket (limit_word setting ++ (codes " " ++ number))
 limit_lacks MaxOpen number none = none
-limit_lacks MaxIdle number none = none
-limit_lacks MaxLife number none = none
-limit_lacks MaxIdleTime number none = none
+limit_lacks _ number none = none
 
 not_skipped : (setting : Setting) (number : List ℕ) → is_skipped (limit_word setting ++ (codes " " ++ number)) ≡ false
 not_skipped MaxOpen number = is_told 109 (codes "axopen " ++ number) refl
@@ -64,9 +62,7 @@ not_skipped MaxIdleTime number = is_told 109 (codes "axidletime " ++ number) ref
 
 limit_is_read : (head : Head) (setting : Setting) (n : ℤ) → FitsSigned w64 n → form_of head (limit_word setting ∷ compact_text (integer n) ∷ []) None ≡ Ok (script.Control (Set setting n))
 limit_is_read head MaxOpen n fits = rw (number_is_read n fits) refl
-limit_is_read head MaxIdle n fits = rw (number_is_read n fits) refl
-limit_is_read head MaxLife n fits = rw (number_is_read n fits) refl
-limit_is_read head MaxIdleTime n fits = rw (number_is_read n fits) refl
+limit_is_read head _ n fits = rw (number_is_read n fits) refl
 
 pub limit_is_read_back : (head : Head) (setting : Setting) (n : ℤ) → FitsSigned w64 n → text_of head (limit_text setting n) ≡ Ok (script.Control (Set setting n))
 limit_is_read_back head setting n fits =

@@ -23,7 +23,7 @@ use Rattle.dsql_script_source.specs.Script.{Script}
 use Rattle.dsql_script_source.specs.Reading.{StopsReading, is_body, ends_head, IsBodyLine, NoLine}
 use Rattle.dsql_script_source.specs.Stops.{IsReadStop}
 use Rattle.dsql_script_source.specs.declared.stop.Stop.{Stop}
-use Rattle.dsql_script_source.specs.declared.stop.Stop.TheVariants.{Read, Write, Memory, Refused, Full}
+use Rattle.dsql_script_source.specs.declared.stop.Stop.TheVariants.{Write, Full}
 
 -- Holds if the reading is a line of the body, or a fault.
 abbrev pub Body : Reading → Type 0
@@ -174,9 +174,6 @@ counted_of_read (Ok None) place now placed = tt
 counted_of_read (Err stop) place now placed = tt
 
 pub readable_stops : (result : Result (Option ScriptLine) Stop) (before : Option Script) → IfErr result (StopsReading before) → IfErr result IsReadStop
-readable_stops (Ok one) before stops = tt
-readable_stops (Err Read) before stops = tt
 readable_stops (Err Write) before stops = stops
-readable_stops (Err Memory) before stops = tt
-readable_stops (Err (Refused number fault)) before stops = tt
 readable_stops (Err Full) before stops = stops
+readable_stops _ before stops = tt

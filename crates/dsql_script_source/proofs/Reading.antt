@@ -11,7 +11,7 @@ use Rattle.dsql_script_reader.specs.declared.script.ScriptLine.{ScriptLine}
 use Rattle.dsql_script_reader.specs.ScriptHead.{Progress, after as after_line}
 use Rattle.dsql_script_reader.specs.ScriptLines.{most_bytes, read_of, most_lines}
 use Rattle.dsql_script_source.specs.declared.stop.Stop.{Stop}
-use Rattle.dsql_script_source.specs.declared.stop.Stop.TheVariants.{Read, Write, Memory, Refused, Full}
+use Rattle.dsql_script_source.specs.declared.stop.Stop.TheVariants.{Write, Refused, Full}
 use Rattle.dsql_script_source.specs.Script.{script_from}
 use Rattle.dsql_script_source.specs.Reading.{ReadsOn, IsRefusal, StopsReading}
 
@@ -51,13 +51,9 @@ reads_on n true (Some unread) after line s is out read =
 pub stops_reading : (n : Progress) (there : Bool) (before after : Option (List ℕ)) (line : List ℕ) (stop : Stop) → there ≡ true → HandsOut there before after line → IsRefusal n line stop
     → StopsReading (option_map (script_from n) (option_map all_lines before)) stop
 stops_reading n false before after line stop is out refusal = absurd (cc is)
-stops_reading n true None after line Read is out refusal = tt
 stops_reading n true None after line Write is out refusal = refusal
-stops_reading n true None after line Memory is out refusal = tt
-stops_reading n true None after line (Refused number fault) is out refusal = tt
 stops_reading n true None after line Full is out refusal = refusal
-stops_reading n true (Some unread) after line Read is out refusal = tt
 stops_reading n true (Some unread) after line Write is out refusal = refusal
-stops_reading n true (Some unread) after line Memory is out refusal = tt
 stops_reading n true (Some unread) after line (Refused number fault) is out refusal = rw (all_lines-first unread out.there, reads_as_first n unread line after out, refusal.1, refusal.0) refl
 stops_reading n true (Some unread) after line Full is out refusal = refusal
+stops_reading n true _ after line _ is out refusal = tt

@@ -26,18 +26,7 @@ same_owner-is (Call n) (Call m) h = ap (λ k. Call k) (eqb→eq n m (grind (arit
 same_owner-is (Tx n) (Tx m) h = ap (λ k. Tx k) (eqb→eq n m (grind (arith, nat_tests, h)))
 same_owner-is (Pin n) (Pin m) h = ap (λ k. Pin k) (eqb→eq n m (grind (arith, nat_tests, h)))
 same_owner-is House House h = refl
-same_owner-is (Call n) (Tx m) h = grind (arith, h)
-same_owner-is (Call n) (Pin m) h = grind (arith, h)
-same_owner-is (Call n) House h = grind (arith, h)
-same_owner-is (Tx n) (Call m) h = grind (arith, h)
-same_owner-is (Tx n) (Pin m) h = grind (arith, h)
-same_owner-is (Tx n) House h = grind (arith, h)
-same_owner-is (Pin n) (Call m) h = grind (arith, h)
-same_owner-is (Pin n) (Tx m) h = grind (arith, h)
-same_owner-is (Pin n) House h = grind (arith, h)
-same_owner-is House (Call m) h = grind (arith, h)
-same_owner-is House (Tx m) h = grind (arith, h)
-same_owner-is House (Pin m) h = grind (arith, h)
+same_owner-is _ _ h = grind (arith, h)
 
 -- Holds if all entries have the owner of the last one.
 pub record OneOwner (earlier : List Entry) : Type 0 where

@@ -12,7 +12,7 @@ use Rattle.dsql_driver.specs.declared.answer.DriverAnswer.TheVariants.{Prepared,
 use Rattle.dsql_driver.specs.Fits.{fits_of, is_memory}
 use Rattle.dsql_tenure_journal.specs.declared.entry.Entry.{Entry}
 use Rattle.dsql_tenure_journal.specs.declared.entry.Owner.{Owner}
-use Rattle.dsql_tenure_journal.specs.declared.entry.Owner.TheVariants.{Call, Tx, Pin, House}
+use Rattle.dsql_tenure_journal.specs.declared.entry.Owner.TheVariants.{Tx}
 use Rattle.dsql_tenure_journal.specs.Kinds.{◌⇒◌, is_number, same_owner}
 use Rattle.dsql_driver.specs.Kinds.{is_bad, is_reset, is_valid, is_begin, is_ending, is_close_stmt, is_work, given_handle, given_cursor}
 use Rattle.dsql_tenure_journal.specs.Readers.{LiveHandle, LiveCursor, is_empty, has, of_transaction, handles, cursors, cursors_after, ended, went_bad}
@@ -68,13 +68,11 @@ works-in (e ∷ before) h =
     of_tx false false x y r none k = (parts2 (x && y) r k).0
 
     go : (o : Owner) → (is_body e ≡ true → KeepsBody o before e) → works_in o e ≡ true
-    go (Call n) kept = refl
-    go (Pin n) kept = refl
-    go House kept = refl
     go (Tx n) kept =
         so_if (is_work e.call) (not (n == 0) && (e.tx == n))
         (λ work. of_tx (is_empty (body before e)) (is_refused_begin e) (not (n == 0)) (e.tx == n) (not (list_any is_refused_begin (earlier before e)))
         (rw (work-no_begin e.call work) refl) (kept (work-body e.call work)))
+    go _ kept = refl
 
 runs-work : (q : DriverCall) (a : DriverAnswer) → runs q a ≡ true → is_work q ≡ true
 runs-work (Exec i p) a h = refl

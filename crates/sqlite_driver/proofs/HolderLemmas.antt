@@ -1,7 +1,7 @@
 -- Which calls need the database, and which wire holds it. The argument is by cases.
 use Rattle.std.proofs.Common.{◌≡◌, ℕ, Bool, true, false, not, Option, Some, None, refl, sym, inl}
 use Rattle.dsql_driver.specs.declared.call.DriverCall.{DriverCall}
-use Rattle.dsql_driver.specs.declared.call.DriverCall.TheVariants.{Connect, Reset, Valid, Ping, Prepare, CloseStmt, Exec, Query, Next, CloseRows, Begin, Commit, Rollback, Shut}
+use Rattle.dsql_driver.specs.declared.call.DriverCall.TheVariants.{Prepare, Exec, Query, Begin}
 use Rattle.dsql_mem_session.specs.Copies.{copies_of}
 use Rattle.sqlite_driver.specs.Holder.{is_held_by, is_held_by_other, locked, needs_database}
 use Rattle.sqlite_driver.specs.Served.{Serves}
@@ -21,13 +21,4 @@ locked-Serves (Prepare text) session h = inl (record { twice = record { copied =
 locked-Serves (Exec input params) session h = record { twice = record { copied = refl; passes = refl }; stays = refl }
 locked-Serves (Query input params) session h = inl (record { twice = record { copied = refl; passes = refl }; stays = refl })
 locked-Serves (Begin level read_only) session h = record { twice = record { copied = refl; passes = refl }; stays = refl }
-locked-Serves Connect session h = cc
-locked-Serves Reset session h = cc
-locked-Serves Valid session h = cc
-locked-Serves Ping session h = cc
-locked-Serves (CloseStmt handle) session h = cc
-locked-Serves (Next rows) session h = cc
-locked-Serves (CloseRows rows) session h = cc
-locked-Serves Commit session h = cc
-locked-Serves Rollback session h = cc
-locked-Serves Shut session h = cc
+locked-Serves _ session h = cc

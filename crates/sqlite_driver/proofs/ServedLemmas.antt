@@ -5,7 +5,7 @@ use Rattle.std.specs.Option.{option_map_or}
 use Rattle.dsql_driver.specs.Fits.{fits_of, is_memory, is_done}
 use Rattle.dsql_driver.specs.Wires.{LiveCursor, KeepsHandles, KeepsCursors}
 use Rattle.dsql_driver.specs.declared.answer.DriverAnswer.{DriverAnswer}
-use Rattle.dsql_driver.specs.declared.answer.DriverAnswer.TheVariants.{Done, Prepared, Result, Cursor, Row, End, Invalid, Skip, Bad, Fail, Memory}
+use Rattle.dsql_driver.specs.declared.answer.DriverAnswer.TheVariants.{Done, Result, Cursor, Bad, Fail}
 use Rattle.dsql_driver.specs.declared.call.DriverCall.{DriverCall}
 use Rattle.dsql_driver.specs.declared.call.DriverCall.TheVariants.{Connect, Reset, Valid, Ping, Prepare, CloseStmt, Exec, Query, Next, CloseRows, Begin, Commit, Rollback, Shut}
 use Rattle.dsql_driver.specs.declared.call.Input.{Input}
@@ -42,58 +42,25 @@ cond_both P false x y p q = q
 -- What holds of Done holds of an answer that is Done.
 of_done : (P : DriverAnswer → Type 0) (answer : DriverAnswer) → is_done answer ≡ true → P Done → P answer
 of_done P Done h p = p
-of_done P (Prepared handle inputs) h p = cc
-of_done P (Result last affected) h p = cc
-of_done P (Cursor rows columns) h p = cc
-of_done P (Row values) h p = cc
-of_done P End h p = cc
-of_done P Invalid h p = cc
-of_done P Skip h p = cc
-of_done P Bad h p = cc
-of_done P (Fail text) h p = cc
-of_done P Memory h p = cc
+of_done P _ h p = cc
 
 -- What holds of each Fail holds of an answer that is one.
 of_fail : (P : DriverAnswer → Type 0) (answer : DriverAnswer) → is_fail answer ≡ true → ((text : List ℕ) → P (Fail text)) → P answer
 of_fail P (Fail text) h p = p text
-of_fail P Done h p = cc
-of_fail P (Prepared handle inputs) h p = cc
-of_fail P (Result last affected) h p = cc
-of_fail P (Cursor rows columns) h p = cc
-of_fail P (Row values) h p = cc
-of_fail P End h p = cc
-of_fail P Invalid h p = cc
-of_fail P Skip h p = cc
-of_fail P Bad h p = cc
-of_fail P Memory h p = cc
+of_fail P _ h p = cc
 
 -- What holds of each Fail, of Done and of Bad holds of an answer that is one of these.
 of_ended : (P : DriverAnswer → Type 0) (answer : DriverAnswer) → is_ended answer ≡ true → ((text : List ℕ) → P (Fail text)) → P Done → P Bad → P answer
 of_ended P (Fail text) h p q r = p text
 of_ended P Done h p q r = q
 of_ended P Bad h p q r = r
-of_ended P (Prepared handle inputs) h p q r = cc
-of_ended P (Result last affected) h p q r = cc
-of_ended P (Cursor rows columns) h p q r = cc
-of_ended P (Row values) h p q r = cc
-of_ended P End h p q r = cc
-of_ended P Invalid h p q r = cc
-of_ended P Skip h p q r = cc
-of_ended P Memory h p q r = cc
+of_ended P _ h p q r = cc
 
 -- What holds of each Fail and of each Result holds of an answer that is one of these.
 of_executed : (P : DriverAnswer → Type 0) (answer : DriverAnswer) → is_executed answer ≡ true → ((text : List ℕ) → P (Fail text)) → ((last affected : ℤ) → P (Result last affected)) → P answer
 of_executed P (Fail text) h p q = p text
 of_executed P (Result last affected) h p q = q last affected
-of_executed P Done h p q = cc
-of_executed P (Prepared handle inputs) h p q = cc
-of_executed P (Cursor rows columns) h p q = cc
-of_executed P (Row values) h p q = cc
-of_executed P End h p q = cc
-of_executed P Invalid h p q = cc
-of_executed P Skip h p q = cc
-of_executed P Bad h p q = cc
-of_executed P Memory h p q = cc
+of_executed P _ h p q = cc
 
 -- An answer that passes the test, with a session that stays, is lawful if each answer that passes is.
 stays-IsLawful : (test : DriverAnswer → Bool) (call : DriverCall) (answered : Answered) (before after : SessionState) → Stays test answered before after → IsLawful call answered.answer before before → IsLawful call answered.answer before after
@@ -217,16 +184,12 @@ keeps-copied kept answered after h = rw h.copies refl
 
 -- Both copies of the answer to a call that is served are equal.
 Serves-copied : (call : DriverCall) (answered : Answered) (before after : SessionState) → Serves call answered before after → answered.copy ≡ answered.answer
-Serves-copied Connect answered before after h = h.twice.copied
-Serves-copied Valid answered before after h = h.twice.copied
-Serves-copied Ping answered before after h = h.twice.copied
-Serves-copied (Exec i params) answered before after h = h.twice.copied
 Serves-copied (CloseStmt handle) answered before after h = keeps-copied _ answered after h
 Serves-copied (Next rows) answered before after h = keeps-copied _ answered after h
 Serves-copied (CloseRows rows) answered before after h = keeps-copied _ answered after h
 Serves-copied (Prepare text) answered before after h = elim h [ inl failed ↦ failed.twice.copied | inr made ↦ keeps-copied _ answered after made.1 ]
 Serves-copied (Query i params) answered before after h = elim h [ inl failed ↦ failed.twice.copied | inr made ↦ keeps-copied _ answered after made.1 ]
-Serves-copied call answered before after h = h.twice.copied
+Serves-copied _ answered before after h = h.twice.copied
 
 pub ServesUnless-copied : (fault : Option DriverAnswer) (call : DriverCall) (answered : Answered) (before after : SessionState) → ServesUnless fault call answered before after → answered.copy ≡ answered.answer
 ServesUnless-copied None call answered before after h = Serves-copied call answered before after h

@@ -2,7 +2,7 @@
 use Rattle.std.proofs.Common.{◌≡◌, List, [], ◌∷◌, map, ap, refl, ◌∙◌}
 use Rattle.dsql_value.specs.declared.value.Param.{Param}
 use Rattle.dsql_value.specs.declared.value.Value.{Value}
-use Rattle.dsql_value.specs.declared.value.Value.TheVariants.{Nil, Int, Bool, Bytes, Text, Time}
+use Rattle.dsql_value.specs.declared.value.Value.TheVariants.{Nil}
 use Rattle.sqlite.specs.Values.{bound, bound_value}
 use Rattle.sqlite_value.specs.Value.{owned}
 use Rattle.sqlite_value.specs.declared.value.Value.{Value as SqlValue}
@@ -12,11 +12,7 @@ use Rattle.sqlite_driver.specs.Values.{sql_value, sql_values}
 -- A value of the layer is bound as it is.
 bound-same : (value : Value) → bound_value (sql_value value) ≡ sql_value value
 bound-same Nil = refl
-bound-same (Int n) = refl
-bound-same (Bool b) = refl
-bound-same (Bytes b) = refl
-bound-same (Text t) = refl
-bound-same (Time moment) = refl
+bound-same _ = refl
 
 bound-owned : (values : List ValueRef) → bound values ≡ map bound_value (map owned values)
 bound-owned [] = refl
