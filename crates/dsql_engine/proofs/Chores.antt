@@ -9,7 +9,7 @@ use Rattle.dsql_engine_hearing.specs.journal.declared.entry.Permit.{Permit}
 use Rattle.dsql_engine_hearing.specs.journal.Kinds.{is_house, number_of}
 use Rattle.dsql_engine_hearing.specs.pool.declared.conn.Conn.{Conn}
 use Rattle.dsql_engine_hearing.specs.pool.declared.conn.Place.{Place}
-use Rattle.dsql_engine_hearing.specs.pool.declared.conn.Place.TheVariants.{Idle, Lent, Opening, Closing}
+use Rattle.dsql_engine_hearing.specs.pool.declared.conn.Place.TheVariants.{Lent, Opening, Closing}
 use Rattle.dsql_engine_hearing.specs.pool.Places.{is_closing, is_opening}
 use Rattle.dsql_engine_hearing.specs.works.declared.work.Aim.TheVariants.{Execute}
 use Rattle.dsql_engine_hearing.specs.works.Line.{Asked}
@@ -50,21 +50,15 @@ unmapped f (Some call) h = refl
 tidies : (H : List Event) (c : ℕ) (at : Place) → is_untidy H at ≡ true → is_some (chore_at H c (Some at)) ≡ true
 tidies H c (Lent t owner) h =
     let due = tidying H (number_of owner) in mapped (call_permit c t owner 0) due (both (not (is_house owner)) (is_some due) h).1
-tidies H c Idle h = absurd cc
-tidies H c (Opening wanted) h = absurd cc
-tidies H c Closing h = absurd cc
+tidies H c _ h = absurd cc
 
 shuts : (H : List Event) (c : ℕ) (at : Place) → is_closing (Some at) ≡ true → is_some (chore_at H c (Some at)) ≡ true
 shuts H c Closing h = refl
-shuts H c Idle h = absurd cc
-shuts H c (Opening wanted) h = absurd cc
-shuts H c (Lent t owner) h = absurd cc
+shuts H c _ h = absurd cc
 
 connects : (H : List Event) (c : ℕ) (at : Place) → is_opening (Some at) ≡ true → is_some (chore_at H c (Some at)) ≡ true
 connects H c (Opening wanted) h = refl
-connects H c Idle h = absurd cc
-connects H c Closing h = absurd cc
-connects H c (Lent t owner) h = absurd cc
+connects H c _ h = absurd cc
 
 one_of : (a b d : Option ℕ) (c : ℕ) (P : Bool) → (a ≡ Some c → P ≡ true) → (b ≡ Some c → P ≡ true) → (d ≡ Some c → P ≡ true) → or_else a (or_else b d) ≡ Some c → P ≡ true
 one_of (Some x) b d c P first second third is = first is

@@ -12,7 +12,7 @@ use Rattle.dsql_engine_hearing.specs.history.declared.event.Event.{Event}
 use Rattle.dsql_engine_hearing.specs.history.declared.event.Event.TheVariants.{Pool, Replied}
 use Rattle.dsql_engine_hearing.specs.history.declared.record.Flight.{Flight}
 use Rattle.dsql_engine_hearing.specs.history.declared.record.Stand.{Stand}
-use Rattle.dsql_engine_hearing.specs.history.declared.record.Stand.TheVariants.{Waits, Opens, Sends, Replies, Asks}
+use Rattle.dsql_engine_hearing.specs.history.declared.record.Stand.TheVariants.{Sends}
 use Rattle.dsql_engine_hearing.specs.history.declared.reply.Reply.{Reply}
 use Rattle.dsql_engine_hearing.specs.history.declared.reply.Reply.TheVariants.{TooMany}
 use Rattle.dsql_engine_hearing.specs.history.Readers.Calls.{rests, rests_with, reply_due}
@@ -50,11 +50,9 @@ begun_resting : (n : ℕ) (H : List Event) → is_empty H ≡ false → is_empty
 begun_resting n H begun = either_begun (sends_nothing H n && rests H n) (after_reply n (reply_due H n) H) H (begun_reply n (reply_due H n) H begun) begun
 
 begun_with : (n : ℕ) (a : Result Asked AskFault) (H : List Event) → is_empty H ≡ false → is_empty (with_asked n a H) ≡ false
-begun_with n (Ok (asked.Lent c t)) H begun = refl
-begun_with n (Ok (asked.Opening c)) H begun = refl
-begun_with n (Ok asked.Queued) H begun = refl
 begun_with n (Ok asked.Closed) H begun = begun
 begun_with n (Err why) H begun = begun
+begun_with n (Ok _) H begun = refl
 
 begun_asked : (n : ℕ) (a : Result Asked AskFault) (H : List Event) → is_empty H ≡ false → is_empty (asked_so n a H) ≡ false
 begun_asked n (Err faults.TooMany) H begun = refl
@@ -94,10 +92,7 @@ resting_others n H m apart = either_others (sends_nothing H n && rests H n) (aft
 
 with_others : (n : ℕ) (a : Result Asked AskFault) (H : List Event) (m : ℕ) → is_unfinished (with_asked n a H) m ≡ is_unfinished H m
 with_others n (Ok (asked.Lent c t)) H m = refl
-with_others n (Ok (asked.Opening c)) H m = refl
-with_others n (Ok asked.Queued) H m = refl
-with_others n (Ok asked.Closed) H m = refl
-with_others n (Err why) H m = refl
+with_others n _ H m = refl
 
 asked_others : (n : ℕ) (a : Result Asked AskFault) (H : List Event) (m : ℕ) → m ≢ n → is_unfinished (asked_so n a H) m ≡ is_unfinished H m
 asked_others n (Err faults.TooMany) H m apart = replied_others H n TooMany m apart
@@ -134,11 +129,7 @@ begins_to_fly K n c false flights u h =
 
 permitted_fly : (K : List Event) (n : ℕ) (at : Option Stand) (flights : List Flight) → is_unfinished K n ≡ true → are_of_unfinished K flights ≡ true → are_of_unfinished K (permitted n at flights) ≡ true
 permitted_fly K n (Some (Sends c)) flights u h = begins_to_fly K n c (is_in_flight n flights || has_flight c flights) flights u h
-permitted_fly K n (Some Waits) flights u h = h
-permitted_fly K n (Some (Opens c)) flights u h = h
-permitted_fly K n (Some Replies) flights u h = h
-permitted_fly K n (Some Asks) flights u h = h
-permitted_fly K n None flights u h = h
+permitted_fly K n _ flights u h = h
 
 pub gone_flies : (K : List Event) (n : ℕ) (before after : List Flight) (next : Next) → HasGoneOn K before after n next → are_of_unfinished K before ≡ true → are_of_unfinished K after ≡ true
 gone_flies K n before after next went h = ap (are_of_unfinished K) went.flights ∙ by (is_unfinished K n) refl

@@ -4,7 +4,7 @@ use Rattle.std.specs.Prelude.{Result, Ok, Err}
 use Rattle.dsql_engine_hearing.specs.journal.declared.entry.Entry.{Entry}
 use Rattle.dsql_engine_hearing.specs.journal.Kinds.{is_house, number_of}
 use Rattle.dsql_engine_hearing.specs.pool.declared.conn.Place.{Place}
-use Rattle.dsql_engine_hearing.specs.pool.declared.conn.Place.TheVariants.{Idle, Lent, Opening, Closing}
+use Rattle.dsql_engine_hearing.specs.pool.declared.conn.Place.TheVariants.{Lent, Opening}
 use Rattle.dsql_engine_hearing.specs.pool.declared.moves.Move.{Move}
 use Rattle.dsql_engine_hearing.specs.pool.declared.request.Asked.{Asked}
 use Rattle.dsql_engine_hearing.specs.pool.declared.request.Asked.TheVariants as asked
@@ -102,10 +102,7 @@ heard_at_adds_few H e (Some (Lent t owner)) l settled = by (is_house owner)
         let left = few_let_go K e.conn (number_of owner) in
         let gone = gone_adds e.call_no (let_go e.conn (number_of owner) K) in
         omega (arith, left, gone)
-heard_at_adds_few H e (Some Idle) l settled = rest_adds_few H (Heard e) l settled
-heard_at_adds_few H e (Some (Opening wanted)) l settled = rest_adds_few H (Heard e) l settled
-heard_at_adds_few H e (Some Closing) l settled = rest_adds_few H (Heard e) l settled
-heard_at_adds_few H e None l settled = rest_adds_few H (Heard e) l settled
+heard_at_adds_few H e _ l settled = rest_adds_few H (Heard e) l settled
 
 -- A step that begins before the run is full leaves room for the end.
 

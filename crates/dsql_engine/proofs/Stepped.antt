@@ -1,10 +1,10 @@
 -- What stays unchanged in the history and in the flights as a call enters and as an answer is taken in.
-use Rattle.std.proofs.Common.{◌≡◌, ◌≢◌, ℕ, ◌==◌, Bool, true, false, not, ◌||◌, cond, List, [], ◌∷◌, Option, Some, None, refl, sym, ap, subst, ◌∙◌, arith}
+use Rattle.std.proofs.Common.{◌≡◌, ◌≢◌, ℕ, ◌==◌, Bool, true, false, not, ◌||◌, cond, List, [], ◌∷◌, Option, Some, refl, sym, ap, subst, ◌∙◌, arith}
 use Rattle.dsql_engine_hearing.specs.journal.declared.entry.Entry.{Entry}
 use Rattle.dsql_engine_hearing.specs.journal.Kinds.{is_house, number_of}
 use Rattle.dsql_engine_hearing.specs.journal.Readers.{has, is_empty}
 use Rattle.dsql_engine_hearing.specs.pool.declared.conn.Place.{Place}
-use Rattle.dsql_engine_hearing.specs.pool.declared.conn.Place.TheVariants.{Idle, Lent, Opening, Closing}
+use Rattle.dsql_engine_hearing.specs.pool.declared.conn.Place.TheVariants.{Lent}
 use Rattle.dsql_engine_hearing.specs.pool.declared.moves.Move.{Move}
 use Rattle.dsql_engine_hearing.specs.history.declared.event.Event.{Event}
 use Rattle.dsql_engine_hearing.specs.history.declared.event.Event.TheVariants.{Entered, Heard}
@@ -65,10 +65,7 @@ begun_heard_at H e (Some (Lent t owner)) =
     let n = number_of owner in
     let left = either_begun (is_used K n) K (with_moves (given_back K e.conn) K) refl (begun_moved (given_back K e.conn) K refl) in
     either_begun (is_house owner) (with_owed K) (gone_on e.call_no (let_go e.conn n K)) (begun_moved (owed K) K refl) (begun_gone e.call_no (let_go e.conn n K) left)
-begun_heard_at H e (Some Idle) = begun_moved (owed (Heard e ∷ H)) (Heard e ∷ H) refl
-begun_heard_at H e (Some (Opening wanted)) = begun_moved (owed (Heard e ∷ H)) (Heard e ∷ H) refl
-begun_heard_at H e (Some Closing) = begun_moved (owed (Heard e ∷ H)) (Heard e ∷ H) refl
-begun_heard_at H e None = begun_moved (owed (Heard e ∷ H)) (Heard e ∷ H) refl
+begun_heard_at H e _ = begun_moved (owed (Heard e ∷ H)) (Heard e ∷ H) refl
 
 pub begun_heard : (H : List Event) (e : Entry) → is_empty (after_heard H e) ≡ false
 begun_heard H e = begun_heard_at H e (place H e.conn)
@@ -82,10 +79,7 @@ heard_others H e (Some (Lent t owner)) m apart = by (is_house owner)
     by : (b : Bool) → is_unfinished (cond b (with_owed K) (gone_on e.call_no (let_go e.conn (number_of owner) K))) m ≡ is_unfinished H m
     by true = moved_same (owed K) K m
     by false = gone_others e.call_no (let_go e.conn (number_of owner) K) m apart ∙ same_let_go K e.conn (number_of owner) m
-heard_others H e (Some Idle) m apart = moved_same (owed (Heard e ∷ H)) (Heard e ∷ H) m
-heard_others H e (Some (Opening wanted)) m apart = moved_same (owed (Heard e ∷ H)) (Heard e ∷ H) m
-heard_others H e (Some Closing) m apart = moved_same (owed (Heard e ∷ H)) (Heard e ∷ H) m
-heard_others H e None m apart = moved_same (owed (Heard e ∷ H)) (Heard e ∷ H) m
+heard_others H e _ m apart = moved_same (owed (Heard e ∷ H)) (Heard e ∷ H) m
 
 landed_flies : (H : List Event) (n : ℕ) (flights : List Flight) → are_of_unfinished H flights ≡ true → are_of_unfinished H (without_flight n flights) ≡ true
 landed_flies H n [] h = refl

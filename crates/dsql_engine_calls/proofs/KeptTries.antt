@@ -2,7 +2,7 @@
 use Rattle.std.proofs.Common.{◌≡◌, ℕ, ◌+◌, ◌<◌, List, [], ◌∷◌, length, Some, refl, ap, arith}
 use Rattle.std.specs.Prelude.{min}
 use Rattle.dsql_history.specs.declared.record.Try.{Try}
-use Rattle.dsql_history.specs.declared.record.Try.TheVariants.{Served, Lost, Refused}
+use Rattle.dsql_history.specs.declared.record.Try.TheVariants.{Served}
 use Rattle.dsql_history.specs.Readers.Tries.{try_number, has_a_try, asks_last, asks_again, lost}
 use Rattle.dsql_engine_calls.specs.declared.tried.Tried.{Tried}
 use Rattle.dsql_engine_calls.specs.Tried as of_row
@@ -26,16 +26,12 @@ kept_last [] = refl
 kept_last (t ∷ ts) = refl
 
 pub kept_again : (ts : List Try) → of_row.asks_again (kept ts) ≡ asks_again ts
-kept_again [] = refl
 kept_again (Served ∷ ts) = refl
-kept_again (Lost ∷ ts) = refl
-kept_again (Refused answer ∷ ts) = refl
+kept_again _ = refl
 
 pub kept_lost : (ts : List Try) → newest_lost (kept ts) ≡ kept (lost ts)
-kept_lost [] = refl
 kept_lost (Served ∷ ts) = refl
-kept_lost (Lost ∷ ts) = refl
-kept_lost (Refused answer ∷ ts) = refl
+kept_lost _ = refl
 
 counted : (ts : List Try) → (kept ts).count ≡ length ts
 counted [] = refl
@@ -49,7 +45,5 @@ kept_more it ts few =
     ap of_count count
 
 pub kept_told : (H : List Event) (work : Work) (ts : List Try) → told_trying (db_end H) work (kept ts) ≡ told_by_tries H work ts
-kept_told H work [] = refl
 kept_told H work (Served ∷ ts) = refl
-kept_told H work (Lost ∷ ts) = refl
-kept_told H work (Refused answer ∷ ts) = refl
+kept_told H work _ = refl

@@ -1,10 +1,10 @@
 -- The row of a call gives the reply that is due.
-use Rattle.std.proofs.Common.{◌≡◌, ℕ, Bool, true, false, cond, List, [], ◌∷◌, Option, Some, None, refl, ap, ◌∙◌}
+use Rattle.std.proofs.Common.{◌≡◌, ℕ, Bool, true, false, cond, List, ◌∷◌, Option, Some, None, refl, ap, ◌∙◌}
 use Rattle.std.specs.Prelude.{is_some, slice_index_or}
 use Rattle.dsql_history.specs.driver.declared.caps.Caps.{Caps}
 use Rattle.dsql_history.specs.course.Made.{or_else}
 use Rattle.dsql_history.specs.declared.record.Try.{Try}
-use Rattle.dsql_history.specs.declared.record.Try.TheVariants.{Served, Lost, Refused}
+use Rattle.dsql_history.specs.declared.record.Try.TheVariants.{Served}
 use Rattle.dsql_history.specs.declared.reply.DbEnd.{DbEnd}
 use Rattle.dsql_engine_calls.specs.declared.tried.Tried.{Tried}
 use Rattle.dsql_engine_calls.specs.Tried.{kept}
@@ -16,7 +16,7 @@ use Rattle.dsql_history.specs.declared.reply.Reply.TheVariants.{Truth}
 use Rattle.dsql_history.specs.declared.work.Scope.{Scope}
 use Rattle.dsql_history.specs.declared.work.Scope.TheVariants.{Db, Tx}
 use Rattle.dsql_history.specs.declared.work.Work.{Work}
-use Rattle.dsql_history.specs.declared.work.Work.TheVariants.{Execute, ReadOne, HandOut, Begin, End, Ping, Fetch, Close, Look}
+use Rattle.dsql_history.specs.declared.work.Work.TheVariants.{Execute, ReadOne, HandOut, Begin, Ping, Fetch}
 use Rattle.dsql_history.specs.Readers.Calls.{call_record, decided, done_with, has_begun_to_send, reply_due, told_as_lent, told_by_tries, told_of_work}
 use Rattle.dsql_history.specs.Readers.Calls as readers
 use Rattle.dsql_history.specs.Readers.Course.{caps, db_end}
@@ -37,18 +37,8 @@ row_call H rows n k = call_at rows n ∙ ap (λ cs. slice_index_or cs n readers.
 
 -- The newest try gives the reply that a lending settles.
 pub served_as : (can : Caps) (it : Work) (ts : List Try) → told_served can.pinger it (kept ts).newest ≡ told_as_lent can it ts
-served_as can Ping [] = refl
 served_as can Ping (Served ∷ earlier) = refl
-served_as can Ping (Lost ∷ earlier) = refl
-served_as can Ping (Refused answer ∷ earlier) = refl
-served_as can (Execute it) ts = refl
-served_as can (ReadOne it dests) ts = refl
-served_as can (HandOut it label) ts = refl
-served_as can (Begin label level read_only) ts = refl
-served_as can (End k) ts = refl
-served_as can (Fetch k) ts = refl
-served_as can (Close k) ts = refl
-served_as can Look ts = refl
+served_as can _ _ = refl
 
 unsent : (sent : Bool) (end : Option TxEnd) → done_with (cond sent None end) ≡ cond sent None (done_with end)
 unsent true end = refl
@@ -63,15 +53,13 @@ beside_as : (H : List Event) (n : ℕ) (w : Work) → is_some (or_else (told_of_
     → or_else (told_beside (db_end H) (ended_in H n (scope w)) w (kept (tries H n))) (told_served (caps H).pinger w (kept (tries H n)).newest) ≡ or_else (told_of_work H n w) (told_as_lent (caps H) w (tries H n))
 beside_as H n (Fetch k) told =
     elim (are_over H k) as (λ b. is_some (or_else (cond b (Some (Truth false)) None) None) ≡ true → Some (Truth false) ≡ or_else (cond b (Some (Truth false)) None) None) [ true ↦ λ h. refl | false ↦ λ h. absurd cc ] told
-beside_as H n (Close k) told = refl
-beside_as H n (End k) told = refl
-beside_as H n Look told = refl
 beside_as H n (Execute it) told = ap (λ (reply : Option Reply). or_else reply None) (in_as H n (Execute it) it)
 beside_as H n (ReadOne it dests) told = ap (λ (reply : Option Reply). or_else reply None) (in_as H n (ReadOne it dests) it)
 beside_as H n (HandOut it label) told = ap (λ (reply : Option Reply). or_else reply None) (in_as H n (HandOut it label) it)
 beside_as H n (Begin label level read_only) told = ap (λ (reply : Option Reply). or_else reply None) (in_as H n (Begin label level read_only) Db)
 beside_as H n Ping told =
     ap (λ (reply : Option Reply). or_else reply (told_served (caps H).pinger Ping (kept (tries H n)).newest)) (in_as H n Ping Db) ∙ ap (or_else (told_by_tries H Ping (tries H n))) (served_as (caps H) Ping (tries H n))
+beside_as H n _ told = refl
 
 due_as : (H : List Event) (n : ℕ) (d : Option Reply) (w : Work) → is_some (or_else (or_else d (told_of_work H n w)) (told_as_lent (caps H) w (tries H n))) ≡ true
     → or_else (or_else d (told_beside (db_end H) (ended_in H n (scope w)) w (kept (tries H n)))) (told_served (caps H).pinger w (kept (tries H n)).newest) ≡ or_else (or_else d (told_of_work H n w)) (told_as_lent (caps H) w (tries H n))

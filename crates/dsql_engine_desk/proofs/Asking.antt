@@ -57,17 +57,12 @@ asks_as H n last owner p is_last is_owner is_pool =
 
 pub asked_leaves : (n : ℕ) (a : Result Asked AskFault) (H : List Event) → Leaves H (with_asked n a H)
 asked_leaves n (Ok (asked.Lent c t)) H = record { caps = refl; db_end = refl; has_ended = refl; unfinished = refl; works = refl; handed_out = refl; transactions = refl; sent = refl; lines = refl }
-asked_leaves n (Ok (asked.Opening c)) H = record { caps = refl; db_end = refl; has_ended = refl; unfinished = refl; works = refl; handed_out = refl; transactions = refl; sent = refl; lines = refl }
-asked_leaves n (Ok asked.Queued) H = record { caps = refl; db_end = refl; has_ended = refl; unfinished = refl; works = refl; handed_out = refl; transactions = refl; sent = refl; lines = refl }
-asked_leaves n (Ok asked.Closed) H = record { caps = refl; db_end = refl; has_ended = refl; unfinished = refl; works = refl; handed_out = refl; transactions = refl; sent = refl; lines = refl }
-asked_leaves n (Err why) H = record { caps = refl; db_end = refl; has_ended = refl; unfinished = refl; works = refl; handed_out = refl; transactions = refl; sent = refl; lines = refl }
+asked_leaves n _ H = record { caps = refl; db_end = refl; has_ended = refl; unfinished = refl; works = refl; handed_out = refl; transactions = refl; sent = refl; lines = refl }
 
 pub asked_calm : (n : ℕ) (a : Result Asked AskFault) (H : List Event) → Calm H → Calm (with_asked n a H)
-asked_calm n (Ok (asked.Lent c t)) H calm = (calm, λ outside. absurd cc)
-asked_calm n (Ok (asked.Opening c)) H calm = (calm, λ outside. absurd cc)
-asked_calm n (Ok asked.Queued) H calm = (calm, λ outside. absurd cc)
 asked_calm n (Ok asked.Closed) H calm = calm
 asked_calm n (Err why) H calm = calm
+asked_calm n (Ok _) H calm = (calm, λ outside. absurd cc)
 
 wanted_is : (H : List Event) (n : ℕ) → n ≢ 0 → wanted_by H n ≡ Some (owner_of H n)
 wanted_is H n some = let other = other_number n 0 some in rw other refl
@@ -82,8 +77,6 @@ event_or d None = d
 event_or d (Some e) = e
 
 pub one_came : (n : ℕ) (a : Result Asked AskFault) (e : Event) (H : List Event) → event_asked n (owner_of H n) a ≡ Some e → e ∷ H ≡ with_asked n a H
-one_came n (Ok (asked.Lent c t)) e H is = ap (λ f. f ∷ H) (sym (ap (event_or e) is))
-one_came n (Ok (asked.Opening c)) e H is = ap (λ f. f ∷ H) (sym (ap (event_or e) is))
-one_came n (Ok asked.Queued) e H is = ap (λ f. f ∷ H) (sym (ap (event_or e) is))
 one_came n (Ok asked.Closed) e H is = absurd cc
 one_came n (Err why) e H is = absurd cc
+one_came n (Ok _) e H is = ap (λ f. f ∷ H) (sym (ap (event_or e) is))

@@ -5,7 +5,7 @@ use Rattle.dsql_laws_calls.specs.journal.declared.entry.Owner.{Owner}
 use Rattle.dsql_laws_calls.specs.journal.declared.entry.Owner.TheVariants as owners
 use Rattle.dsql_laws_calls.specs.journal.Kinds.{number_of}
 use Rattle.dsql_laws_calls.specs.pool.declared.conn.Place.{Place}
-use Rattle.dsql_laws_calls.specs.pool.declared.conn.Place.TheVariants.{Idle, Lent, Opening, Closing}
+use Rattle.dsql_laws_calls.specs.pool.declared.conn.Place.TheVariants.{Lent}
 use Rattle.dsql_laws_calls.proofs.laws.Tests.{same_itself, same_number}
 use Rattle.dsql_laws_calls.specs.history.declared.event.Event.{Event}
 use Rattle.dsql_laws_calls.specs.history.declared.event.Event.TheVariants.{Entered}
@@ -35,15 +35,12 @@ pub record LentTo (H : List Event) (n c : ℕ) : Type 0 where
   pub number : n ≡ number_of owner
 
 lent_in : (H : List Event) (n c : ℕ) (p : Option Place) → place H (home H n) ≡ p → lent_at n (home H n) p ≡ Some c → LentTo H n c
-lent_in H n c None is h = absurd cc
-lent_in H n c (Some Idle) is h = absurd cc
-lent_in H n c (Some (Opening wanted)) is h = absurd cc
-lent_in H n c (Some Closing) is h = absurd cc
 lent_in H n c (Some (Lent t own)) is h = by (number_of own == n) refl h
   where
     by : (b : Bool) → (number_of own == n) ≡ b → cond b (Some (home H n)) None ≡ Some c → LentTo H n c
     by true same h = let here : home H n ≡ c = cc in record { tenure = t; owner = own; here = here; at = ap (place H) (sym here) ∙ is; number = sym (same_number (number_of own) n same) }
     by false other h = absurd cc
+lent_in H n c _ is h = absurd cc
 
 pub lent_to : (H : List Event) (n c : ℕ) → lent_under H n ≡ Some c → LentTo H n c
 lent_to H n c h = lent_in H n c (place H (home H n)) refl h

@@ -7,7 +7,7 @@ use Rattle.dsql_laws_calls.specs.history.declared.event.Event.{Event}
 use Rattle.dsql_laws_calls.specs.history.declared.event.Event.TheVariants.{Entered, Pool, Ticked, SetLimit}
 use Rattle.dsql_laws_calls.specs.history.declared.event.Op.TheVariants.{DbClose}
 use Rattle.dsql_laws_calls.specs.history.declared.event.Control.{Control}
-use Rattle.dsql_laws_calls.specs.history.declared.event.Setting.TheVariants.{MaxOpen, MaxIdle, MaxLife, MaxIdleTime}
+use Rattle.dsql_laws_calls.specs.history.declared.event.Setting.TheVariants.{MaxOpen}
 use Rattle.dsql_laws_calls.specs.history.declared.event.Control.TheVariants.{Tick, Set}
 use Rattle.dsql_laws_calls.specs.history.Readers.Course.{caps, db_end, has_ended}
 use Rattle.dsql_laws_calls.specs.history.Readers.HandedOut.{handed_out}
@@ -75,11 +75,8 @@ stays_calm [] H calm = calm
 stays_calm (m ∷ ms) H calm = stays_calm ms (Pool m ∷ H) (calm, λ outside. absurd cc)
 
 drawn_control : (control : Control) (p : Pooled) → (with_control control p).drawn ≡ p.drawn
-drawn_control (Tick n) p = refl
 drawn_control (Set MaxOpen n) p = refl
-drawn_control (Set MaxIdle n) p = refl
-drawn_control (Set MaxLife n) p = refl
-drawn_control (Set MaxIdleTime n) p = refl
+drawn_control _ p = refl
 
 -- The pool has drawn at most as many numbers as there are events, because each opening and each lending is an
 -- event.

@@ -12,7 +12,7 @@ use Rattle.dsql_laws_calls.specs.journal.declared.entry.Owner.TheVariants as own
 use Rattle.dsql_laws_calls.specs.journal.Kinds.{number_of}
 use Rattle.dsql_laws_calls.specs.journal.Readers.{went_bad}
 use Rattle.dsql_laws_calls.specs.pool.declared.conn.Place.{Place}
-use Rattle.dsql_laws_calls.specs.pool.declared.conn.Place.TheVariants.{Idle, Lent, Opening, Closing}
+use Rattle.dsql_laws_calls.specs.pool.declared.conn.Place.TheVariants.{Lent}
 use Rattle.dsql_laws_calls.specs.works.Line.{Asked, line_after}
 use Rattle.dsql_engine_exchanged.specs.declared.bare.BareCall.{BareCall}
 use Rattle.dsql_engine_exchanged.specs.Beginning.{beginning_in}
@@ -45,15 +45,12 @@ use Rattle.dsql_engine_lines.proofs.OfConnections.{kept_bad, kept_beginning, kep
 -- Nothing is sent if no connection is lent.
 
 none_at : (H : List Event) (n : ℕ) (wish : Wish) (c : ℕ) (p : Option Place) → lent_at (borrower H n) c p ≡ None → line_at_place H n wish c p ≡ None
-none_at H n wish c None h = refl
-none_at H n wish c (Some Idle) h = refl
-none_at H n wish c (Some (Opening wanted)) h = refl
-none_at H n wish c (Some Closing) h = refl
 none_at H n wish c (Some (Lent t own)) h = by (number_of own == borrower H n) (line_there H c t own n wish) h
   where
     by : (b : Bool) (d : Option DriverCall) → cond b (Some c) None ≡ None → cond b d None ≡ None
     by true d h = absurd cc
     by false d h = refl
+none_at H n wish c _ h = refl
 
 pub none_lent : (H : List Event) (n : ℕ) (wish : Wish) → lent_under H (borrower H n) ≡ None → line_of H n wish ≡ None
 none_lent H n wish h = none_at H n wish (home H (borrower H n)) (place H (home H (borrower H n))) h

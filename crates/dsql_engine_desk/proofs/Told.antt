@@ -1,12 +1,12 @@
 -- What the row of a call without a reply says of the call, and where the call waits.
-use Rattle.std.proofs.Common.{◌≡◌, ◌==◌, ℕ, Bool, true, false, not, ◌||◌, ◌&&◌, cond, List, [], ◌∷◌, refl, sym, ap, ◌∙◌, Option, None, Some, is_none, is_some}
+use Rattle.std.proofs.Common.{◌≡◌, ◌==◌, ℕ, Bool, true, false, not, ◌||◌, ◌&&◌, cond, List, ◌∷◌, refl, sym, ap, ◌∙◌, Option, None, Some, is_none, is_some}
 use Rattle.dsql_laws_calls.specs.course.Made.{or_else}
 use Rattle.dsql_laws_calls.specs.driver.declared.caps.Caps.{Caps}
 use Rattle.dsql_laws_calls.specs.wait.Requests.{waits}
 use Rattle.dsql_laws_calls.specs.pool.Places.{is_for}
 use Rattle.dsql_laws_calls.specs.history.declared.record.Stand.TheVariants.{Waits, Sends, Replies, Asks}
 use Rattle.dsql_laws_calls.specs.history.declared.record.Try.{Try}
-use Rattle.dsql_laws_calls.specs.history.declared.record.Try.TheVariants.{Served, Lost, Refused}
+use Rattle.dsql_laws_calls.specs.history.declared.record.Try.TheVariants.{Served}
 use Rattle.dsql_laws_calls.specs.history.declared.reply.DbEnd.{DbEnd}
 use Rattle.dsql_laws_calls.specs.history.Readers.Pool.{smallest, pool}
 use Rattle.dsql_laws_calls.specs.history.Readers.Tries.{asks_again, asks_last, has_a_try, tries}
@@ -68,16 +68,13 @@ no_more false = refl
 
 -- A ping rests with its connection if the lending settles its reply and the driver can't test a connection.
 idle_as : (can : Caps) (it : Work) (ts : List Try) → asks_nothing can it ts ≡ not can.validator && is_some (told_as_lent can it ts)
-idle_as can Ping [] = no_more (not can.validator)
 idle_as can Ping (Served ∷ earlier) = by can.pinger can.validator
   where
     by : (p v : Bool) → not (p || v) ≡ not v && is_some (cond p None (Some Ok))
     by true v = no_more (not v)
     by false true = refl
     by false false = refl
-idle_as can Ping (Lost ∷ earlier) = no_more (not can.validator)
-idle_as can Ping (Refused answer ∷ earlier) = no_more (not can.validator)
-idle_as can it ts = no_more (not can.validator)
+idle_as can _ _ = no_more (not can.validator)
 
 pub rests_kept : (d : Desk) (n : ℕ) → Stands d → is_unfinished (past d) n ≡ true → rests (past d) n ≡ not d.caps.validator && is_some (told_at_lending (past d) n)
 unfolding Stands

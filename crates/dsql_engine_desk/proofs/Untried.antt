@@ -1,7 +1,7 @@
 -- A call that has tried to get a connection has entered.
 use Rattle.std.proofs.Common.{◌≡◌, ◌≢◌, ℕ, ◌<◌, ◌≤◌, ◌&&◌, ◌==◌, List, [], ◌∷◌, length, refl, sym, ◌∙◌, arith, subst}
 use Rattle.std.proofs.lemmas.List.{length-append}
-use Rattle.dsql_laws_calls.specs.pool.declared.moves.Move.TheVariants.{OpenStart, Lend, Back, CloseStart, Gone, Fell}
+use Rattle.dsql_laws_calls.specs.pool.declared.moves.Move.TheVariants.{Lend, Fell}
 use Rattle.dsql_laws_calls.specs.history.declared.event.Event.{Event}
 use Rattle.dsql_laws_calls.specs.history.declared.event.Event.TheVariants.{Entered, Heard, Pool}
 use Rattle.dsql_laws_calls.specs.history.declared.record.Try.{Try}
@@ -36,10 +36,6 @@ tried_known (Pool (Fell c m) ∷ H) n l some tried =
     let own : m ≢ 0 = λ none. some (sym is ∙ none) in
     subst (λ i. i < length (works H)) is (known asks (works H) m refl (wanting_works H m l.0 own (fallen_wanted H c m l.1 own))))
     (tried_known H n l.0 some) tried
-tried_known (Pool (OpenStart c m) ∷ H) n l some tried = tried_known H n l.0 some tried
-tried_known (Pool (Back c) ∷ H) n l some tried = tried_known H n l.0 some tried
-tried_known (Pool (CloseStart c why) ∷ H) n l some tried = tried_known H n l.0 some tried
-tried_known (Pool (Gone c) ∷ H) n l some tried = tried_known H n l.0 some tried
 tried_known (Heard e ∷ H) n l some tried =
     let same = lost_count ((e.call_no == n) && loses (work H n) e) (tries H n) in
     tried_known H n l.0 some (omega (arith, same, tried))

@@ -14,12 +14,8 @@ are_cells _ = false
 
 pub closing_other : (k : ℕ) (a : DriverAnswer) (d : Option Reply) → are_cells d ≡ false → closing_decision k a d ≡ d
 closing_other k (Fail text) None h = refl
-closing_other k Bad None h = refl
-closing_other k a None h = refl
 closing_other k a (Some (Cells cells)) h = absurd cc
-closing_other k (Fail text) (Some reply) h = refl
-closing_other k Bad (Some reply) h = refl
-closing_other k a (Some reply) h = refl
+closing_other k _ _ h = refl
 
 pub closing_failed : (k : ℕ) (text : List ℕ) (d : Option Reply) → are_cells d ≡ true → closing_decision k (Fail text) d ≡ Some (Driver text)
 closing_failed k text (Some (Cells cells)) h = refl

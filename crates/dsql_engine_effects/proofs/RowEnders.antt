@@ -20,7 +20,7 @@ use Rattle.dsql_history.specs.Readers.HandedOut.{fetched, live, born, caller, en
 use Rattle.dsql_engine_effects.specs.Heard.{is_end, HearsRows, calls_after, ended_for}
 use Rattle.dsql_engine_effects.specs.Starts.{closed_rows, closed_by}
 use Rattle.dsql_history.specs.declared.event.Event.{Event}
-use Rattle.dsql_history.specs.declared.event.Event.TheVariants.{Run, Entered, Heard, Pool, Waits, Ticked, SetLimit, Replied, Ended}
+use Rattle.dsql_history.specs.declared.event.Event.TheVariants.{Entered, Heard, Ended}
 use Rattle.dsql_history.specs.declared.event.Op.{Op}
 use Rattle.dsql_history.specs.declared.event.Op.TheVariants.{RowsClose, Commit, Rollback}
 use Rattle.dsql_history.specs.declared.work.Scope.{Scope}
@@ -82,15 +82,9 @@ goes : (H : List Event) (e : Event) (n : ℕ) → Goes live (rows_by H n) (rows_
 goes H (Entered client m (RowsClose label)) n = closed_goes H label n
 goes H (Entered client m (Commit tx)) n = with_goes H tx n
 goes H (Entered client m (Rollback tx)) n = with_goes H tx n
-goes H (Entered client m op) n = stays live (rows_by H n)
 goes H (Heard e) n = heard_goes H (work H e.call_no) e.call_no n e.call e.answer (handed_out H)
 goes H Ended n = each_goes live (λ q r. ended_by (last_end (scope (work H q))) r) (λ q r. ended_dead (last_end (scope (work H q))) r) n (handed_out H)
-goes H (Run version can) n = stays live (rows_by H n)
-goes H (Pool move) n = stays live (rows_by H n)
-goes H (Waits m) n = stays live (rows_by H n)
-goes H (Ticked now) n = stays live (rows_by H n)
-goes H (SetLimit setting k) n = stays live (rows_by H n)
-goes H (Replied m reply) n = stays live (rows_by H n)
+goes H _ n = stays live (rows_by H n)
 
 pub rows_are_ended : AreEnded live rows_by caller ender
 rows_are_ended = record { nothing = refl; first = λ n. refl; next = λ H e n. refl; goes = goes }

@@ -13,7 +13,7 @@ use Rattle.dsql_history.specs.tx.Transactions.{begun_on, ended_by}
 use Rattle.dsql_history.specs.works.HandedOut.{Made}
 use Rattle.dsql_history.specs.Readers.HandedOut.{live}
 use Rattle.dsql_history.specs.declared.event.Event.{Event}
-use Rattle.dsql_history.specs.declared.event.Event.TheVariants.{Run, Entered, Heard, Pool, Waits, Ticked, SetLimit, Replied, Ended}
+use Rattle.dsql_history.specs.declared.event.Event.TheVariants.{Entered, Heard, Ended}
 use Rattle.dsql_history.specs.declared.event.Op.{Op}
 use Rattle.dsql_history.specs.declared.event.Op.TheVariants.{Commit, Rollback}
 use Rattle.dsql_history.specs.declared.work.Work.{Work}
@@ -46,19 +46,13 @@ ends_goes H label by n =
 goes : (H : List Event) (e : Event) (n : ℕ) → Goes going (tx_by H n) (tx_by (e ∷ H) n)
 goes H (Entered client m (Commit tx)) n = ends_goes H tx ends.Commit n
 goes H (Entered client m (Rollback tx)) n = ends_goes H tx ends.Rollback n
-goes H (Entered client m op) n = stays going (tx_by H n)
 goes H (Heard e) n =
     elim (is_begin e.call && is_done e.answer) as (λ b. Goes going (tx_by H n) (thing_of n (cond b (transactions H ++ (e.call_no, begun_on e.conn e.tenure None) ∷ []) (transactions H)))) [
       | true ↦ found_first going n e.call_no (begun_on e.conn e.tenure None) (transactions H)
       | false ↦ stays going (tx_by H n)
     ]
 goes H Ended n = each_goes going (λ k. ended_by ends.EndOfRun) (λ k. ended_dead ends.EndOfRun) n (transactions H)
-goes H (Run version can) n = stays going (tx_by H n)
-goes H (Pool move) n = stays going (tx_by H n)
-goes H (Waits m) n = stays going (tx_by H n)
-goes H (Ticked now) n = stays going (tx_by H n)
-goes H (SetLimit setting k) n = stays going (tx_by H n)
-goes H (Replied m reply) n = stays going (tx_by H n)
+goes H _ n = stays going (tx_by H n)
 
 pub txs_are_ended : AreEnded going tx_by ending_call tx_ender
 txs_are_ended = record { nothing = refl; first = λ n. refl; next = λ H e n. refl; goes = goes }

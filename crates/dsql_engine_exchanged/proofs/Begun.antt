@@ -85,8 +85,6 @@ nothing_exchanged can level read_only (e ∷ earlier) so =
 
 about_nothing : (call : DriverCall) → is_about [] call ≡ false
 about_nothing (calls.Next rows) = refl
-about_nothing (calls.CloseRows rows) = refl
-about_nothing (calls.CloseStmt handle) = refl
 about_nothing _ = refl
 
 -- An entry is recorded exactly if it belongs to the line of the begin.

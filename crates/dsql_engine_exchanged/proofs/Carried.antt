@@ -48,9 +48,7 @@ begin_carries can reset_due level read_only asked (e ∷ earlier) = by (ends_lin
 
 end_call_carries : (asked : Asked) (end : TxEnd) → Carries asked (ended_by_call end)
 end_call_carries asked ends.Commit = refl
-end_call_carries asked ends.Rollback = refl
-end_call_carries asked (ends.Cancel cause) = refl
-end_call_carries asked ends.EndOfRun = refl
+end_call_carries asked _ = refl
 
 -- What is sent to end a transaction carries whatever is asked, because it has no statement.
 pub end_carries : (before : List Event) (bad : Bool) (end : TxEnd) (asked : Asked) (heard : List Entry) → IfSome (end_after before bad end heard) (Carries asked)

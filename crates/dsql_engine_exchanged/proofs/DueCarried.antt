@@ -8,21 +8,17 @@ use Rattle.dsql_history.specs.driver.declared.call.Input.TheVariants.{Text, Hand
 use Rattle.dsql_history.specs.course.declared.call.Due.{Due}
 use Rattle.dsql_history.specs.course.declared.call.Due.TheVariants as due
 use Rattle.dsql_history.specs.works.declared.work.Aim.{Aim}
-use Rattle.dsql_history.specs.works.declared.work.Aim.TheVariants.{Execute, ReadOne, HandOut, Ping}
+use Rattle.dsql_history.specs.works.declared.work.Aim.TheVariants.{Execute}
 use Rattle.dsql_history.specs.works.Line.{Asked, run_for, sent_as, sent_over, test_of}
 use Rattle.dsql_engine_exchanged.specs.Filled.{Carries, refilled}
 
 text_run : (aim : Aim) (text : List ℕ) (params : List Param) → refilled text params (run_for aim (Text text) params) ≡ run_for aim (Text text) params
 text_run Execute text params = refl
-text_run ReadOne text params = refl
-text_run HandOut text params = refl
-text_run Ping text params = refl
+text_run _ text params = refl
 
 handle_run : (aim : Aim) (handle : ℕ) (text : List ℕ) (params : List Param) → refilled text params (run_for aim (Handle handle) params) ≡ run_for aim (Handle handle) params
 handle_run Execute handle text params = refl
-handle_run ReadOne handle text params = refl
-handle_run HandOut handle text params = refl
-handle_run Ping handle text params = refl
+handle_run _ handle text params = refl
 
 -- A test of the connection carries whatever is asked, because it has no statement.
 pub test_carries : (can : Caps) (asked : Asked) → IfSome (test_of can) (Carries asked)

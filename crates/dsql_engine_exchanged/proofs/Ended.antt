@@ -34,9 +34,7 @@ heard_bad (e ∷ earlier) = ap (λ b. is_bad e.answer || b) (heard_bad earlier)
 
 end_filled : (asked : Asked) (end : TxEnd) → filled asked (bare_end end) ≡ ended_by_call end
 end_filled asked ends.Commit = refl
-end_filled asked ends.Rollback = refl
-end_filled asked (ends.Cancel cause) = refl
-end_filled asked ends.EndOfRun = refl
+end_filled asked _ = refl
 
 -- Returns what follows after the rows, by what was heard.
 rest : Caps → Bool → Bool → Bool → TxEnd → Option DriverCall

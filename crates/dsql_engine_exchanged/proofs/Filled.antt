@@ -2,7 +2,7 @@
 use Rattle.std.proofs.Common.{◌≡◌, ℕ, true, List, refl}
 use Rattle.dsql_history.specs.value.declared.value.Param.{Param}
 use Rattle.dsql_history.specs.works.declared.work.Aim.{Aim}
-use Rattle.dsql_history.specs.works.declared.work.Aim.TheVariants.{Execute, ReadOne, HandOut, Ping}
+use Rattle.dsql_history.specs.works.declared.work.Aim.TheVariants.{Execute}
 use Rattle.dsql_history.specs.driver.declared.call.Input.{Input}
 use Rattle.dsql_history.specs.driver.declared.call.Input.TheVariants.{Text, Handle}
 use Rattle.dsql_history.specs.works.Line.{Asked, run_for}
@@ -12,26 +12,10 @@ use Rattle.dsql_engine_exchanged.specs.declared.bare.BareCall.TheVariants as bar
 
 filled_for : (aim : Aim) (text own : List ℕ) (params others : List Param) (call : BareCall)
     → filled (record { text = text; params = params; aim = aim }) call ≡ refilled text params (filled (record { text = own; params = others; aim = aim }) call)
-filled_for Execute text own params others bare.Text = refl
-filled_for ReadOne text own params others bare.Text = refl
-filled_for HandOut text own params others bare.Text = refl
-filled_for Ping text own params others bare.Text = refl
-filled_for Execute text own params others (bare.Handle handle) = refl
-filled_for ReadOne text own params others (bare.Handle handle) = refl
-filled_for HandOut text own params others (bare.Handle handle) = refl
-filled_for Ping text own params others (bare.Handle handle) = refl
 filled_for aim text own params others bare.Connect = refl
-filled_for aim text own params others bare.Reset = refl
-filled_for aim text own params others bare.Ping = refl
-filled_for aim text own params others bare.Prepare = refl
-filled_for aim text own params others (bare.Next rows) = refl
-filled_for aim text own params others (bare.CloseRows rows) = refl
-filled_for aim text own params others (bare.CloseStmt own_handle) = refl
-filled_for aim text own params others (bare.Begin level read_only) = refl
-filled_for aim text own params others bare.Commit = refl
-filled_for aim text own params others bare.Rollback = refl
-filled_for aim text own params others bare.Valid = refl
-filled_for aim text own params others bare.Shut = refl
+filled_for Execute text own params others bare.Text = refl
+filled_for Execute text own params others (bare.Handle handle) = refl
+filled_for _ text own params others _ = refl
 
 -- Filling a driver call with another text and other parameters is refilling the one that was filled.
 pub filled_anew : (text : List ℕ) (params : List Param) (asked : Asked) (call : BareCall)
@@ -41,9 +25,7 @@ filled_anew text params asked call = filled_for asked.aim text asked.text params
 -- A run of a statement carries the statement.
 runs : (aim : Aim) (input : Input) (params : List Param) → carries_statement (run_for aim input params) ≡ true
 runs Execute input params = refl
-runs ReadOne input params = refl
-runs HandOut input params = refl
-runs Ping input params = refl
+runs _ input params = refl
 
 -- A driver call that is for a statement carries it when filled.
 pub carries : (asked : Asked) (it : BareCall) → has_statement it ≡ true → carries_statement (filled asked it) ≡ true

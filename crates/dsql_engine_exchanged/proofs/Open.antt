@@ -86,16 +86,7 @@ kept None own (Some number) closes closed unclosed so n = open_kept number n clo
 
 same_cursor : (answer : DriverAnswer) → given_cursor answer ≡ cursor_given (got_of answer)
 same_cursor answers.Done = refl
-same_cursor (answers.Prepared handle inputs) = refl
-same_cursor (answers.Result last affected) = refl
-same_cursor (answers.Cursor rows columns) = refl
-same_cursor (answers.Row values) = refl
-same_cursor answers.End = refl
-same_cursor answers.Invalid = refl
-same_cursor answers.Skip = refl
-same_cursor answers.Bad = refl
-same_cursor (answers.Fail text) = refl
-same_cursor answers.Memory = refl
+same_cursor _ = refl
 
 cursor_closed : List Exchange → ℕ → Bool
 cursor_closed made rows = list_any (λ x. closes_cursor rows x.0) made
@@ -131,16 +122,7 @@ number (Some handle) = Some handle.0
 same_handle : (answer : DriverAnswer) → given_handle answer ≡ number (handle_given (got_of answer))
 unfolding number
 same_handle answers.Done = refl
-same_handle (answers.Prepared handle inputs) = refl
-same_handle (answers.Result last affected) = refl
-same_handle (answers.Cursor rows columns) = refl
-same_handle (answers.Row values) = refl
-same_handle answers.End = refl
-same_handle answers.Invalid = refl
-same_handle answers.Skip = refl
-same_handle answers.Bad = refl
-same_handle (answers.Fail text) = refl
-same_handle answers.Memory = refl
+same_handle _ = refl
 
 handle_closed : List Exchange → ℕ → Bool
 handle_closed made handle = list_any (λ x. closes_handle handle x.0) made

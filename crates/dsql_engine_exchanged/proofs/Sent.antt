@@ -49,16 +49,10 @@ test_filled can asked = by_test can.validator
     by_test false = refl
 
 step_filled : (can : Caps) (asked : Asked) (call : Due) → option_map (filled asked) (bare_of can call) ≡ sent_as can asked call
-step_filled can asked due.Text = refl
-step_filled can asked due.Prepare = refl
-step_filled can asked (due.Handle handle) = refl
-step_filled can asked (due.Next rows) = refl
-step_filled can asked (due.CloseRows rows) = refl
-step_filled can asked (due.CloseStmt handle) = refl
-step_filled can asked due.Ping = refl
 step_filled can asked due.Begin = test_filled can asked
 step_filled can asked due.Rollback = test_filled can asked
 step_filled can asked due.Over = test_filled can asked
+step_filled can asked _ = refl
 
 any_filled : (can : Caps) (asked : Asked) (call : Option Due) → option_map (filled asked) (bare_step can call) ≡ sent_over can asked call
 any_filled can asked None = refl

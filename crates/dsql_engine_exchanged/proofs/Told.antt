@@ -27,15 +27,7 @@ inside_as_heard can bad asked wish line = ap (λ made. body_after (untested can)
 
 step_filled : (can : Caps) (asked : Asked) (call : Due) → option_map (filled asked) (bare_of call) ≡ sent_as (untested can) asked call
 step_filled can asked due.Text = refl
-step_filled can asked due.Prepare = refl
-step_filled can asked (due.Handle handle) = refl
-step_filled can asked (due.Next rows) = refl
-step_filled can asked (due.CloseRows rows) = refl
-step_filled can asked (due.CloseStmt handle) = refl
-step_filled can asked due.Ping = refl
-step_filled can asked due.Begin = refl
-step_filled can asked due.Rollback = refl
-step_filled can asked due.Over = refl
+step_filled can asked _ = refl
 
 any_filled : (can : Caps) (asked : Asked) (call : Option Due) → option_map (filled asked) (bare_step call) ≡ sent_over (untested can) asked call
 any_filled can asked None = refl

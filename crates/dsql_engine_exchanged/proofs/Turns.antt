@@ -86,9 +86,7 @@ last_next aim can args known ((_, got) ∷ m) h = absurd cc
 
 last_sent : (can : Caps) (asked : Asked) (next : Due) (call : DriverCall) → is_last next ≡ true → is_due (sent_as (untested can) asked next) call ≡ true → is_close_stmt call ≡ true
 last_sent can asked (due.CloseStmt handle) (calls.CloseStmt other) h sent = refl
-last_sent can asked (due.CloseStmt handle) _ h sent = absurd cc
-last_sent can asked due.Over call h sent = absurd cc
-last_sent can asked _ call h sent = absurd cc
+last_sent can asked _ _ h sent = absurd cc
 
 -- After a close, only a handle is closed.
 only_handle : (can : Caps) (bad : Bool) (asked : Asked) (wish : Wish) (made : List Exchange) (call : DriverCall) → closes_last made ≡ true
@@ -149,24 +147,14 @@ no_stmt_sent can asked due.Text handle h = by asked.aim
   where
     by : (aim : Aim) → is_due (Some (run_for aim (Text asked.text) asked.params)) (calls.CloseStmt handle) ≡ false
     by aims.Execute = refl
-    by aims.ReadOne = refl
-    by aims.HandOut = refl
-    by aims.Ping = refl
-no_stmt_sent can asked due.Prepare handle h = refl
+    by _ = refl
 no_stmt_sent can asked (due.Handle number) handle h = by asked.aim
   where
     by : (aim : Aim) → is_due (Some (run_for aim (Handle number) asked.params)) (calls.CloseStmt handle) ≡ false
     by aims.Execute = refl
-    by aims.ReadOne = refl
-    by aims.HandOut = refl
-    by aims.Ping = refl
-no_stmt_sent can asked (due.Next rows) handle h = refl
-no_stmt_sent can asked (due.CloseRows rows) handle h = refl
+    by _ = refl
 no_stmt_sent can asked (due.CloseStmt number) handle h = absurd cc
-no_stmt_sent can asked due.Ping handle h = refl
-no_stmt_sent can asked due.Begin handle h = refl
-no_stmt_sent can asked due.Rollback handle h = refl
-no_stmt_sent can asked due.Over handle h = refl
+no_stmt_sent can asked _ handle h = refl
 
 handed_own : (aim : Aim) (made : List Exchange) (rows : ℕ) → handed aim made ≡ Some rows → own_cursor made ≡ Some rows
 handed_own aims.HandOut made rows h = h
@@ -256,10 +244,8 @@ still_settled : (aim : Aim) (handle : ℕ) (answer : DriverAnswer) (made : List 
     → (handed aim made ≡ None) ⊎ (rows_are_over made ≡ true)
     → (handed aim ((due.CloseStmt handle, got_of answer) ∷ made) ≡ None) ⊎ (rows_are_over ((due.CloseStmt handle, got_of answer) ∷ made) ≡ true)
 still_settled aim handle answer made nothing (inr over) = inr over
-still_settled aims.Execute handle answer made nothing (inl none) = inl refl
-still_settled aims.ReadOne handle answer made nothing (inl none) = inl refl
 still_settled aims.HandOut handle answer made nothing (inl none) = inl (ap (λ given. or_else given (own_cursor made)) nothing.cursor ∙ none)
-still_settled aims.Ping handle answer made nothing (inl none) = inl refl
+still_settled _ handle answer made nothing (inl none) = inl refl
 
 after_handle : (aim : Aim) (handle : ℕ) (answer : DriverAnswer) (made : List Exchange) → none_given_again made ≡ true → GivesNothing answer
     → (handed aim made ≡ None) ⊎ (rows_are_over made ≡ true) → Stands aim ((due.CloseStmt handle, got_of answer) ∷ made)

@@ -300,8 +300,6 @@ may_hear H e ready l s begun w r = record {
 }
 
 pub house_number : (H : List Event) (e : Entry) (at : Option Place) → e.tx ≡ carried e.owner e.call e.answer → is_lent at ≡ false → hears_in (pool H) at e ≡ true → e.call_no ≡ 0
-house_number H e (Some (Lent t o)) carries off hears = absurd cc
 house_number H e (Some (Opening wanted)) carries off hears = let it = opened_by H e wanted carries hears in it.number
 house_number H e (Some Closing) carries off hears = let it = shut_by H e carries hears in it.number
-house_number H e (Some Idle) carries off hears = absurd cc
-house_number H e None carries off hears = absurd cc
+house_number H e _ carries off hears = absurd cc

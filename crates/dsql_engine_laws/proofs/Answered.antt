@@ -1,6 +1,6 @@
 -- The entry that an answer makes carries the transaction in which it stands, and may come whenever any answer
 -- may.
-use Rattle.std.proofs.Common.{◌≡◌, ℕ, Bool, true, false, not, ◌&&◌, ◌||◌, cond, List, [], ◌∷◌, Option, Some, None, refl, ap, ◌∙◌}
+use Rattle.std.proofs.Common.{◌≡◌, ℕ, Bool, true, false, not, ◌&&◌, ◌||◌, cond, List, [], ◌∷◌, Option, Some, refl, ap, ◌∙◌}
 use Rattle.dsql_engine_hearing.specs.driver.Fits.{is_done}
 use Rattle.dsql_engine_hearing.specs.driver.Kinds.{is_begin}
 use Rattle.dsql_engine_hearing.specs.driver.declared.answer.DriverAnswer.{DriverAnswer}
@@ -13,9 +13,9 @@ use Rattle.dsql_engine_hearing.specs.journal.declared.entry.Permit.{Permit}
 use Rattle.dsql_engine_hearing.specs.journal.Permits.{entry_of}
 use Rattle.dsql_tenure.specs.Judged.{answered}
 use Rattle.dsql_engine_hearing.specs.pool.declared.conn.Place.{Place}
-use Rattle.dsql_engine_hearing.specs.pool.declared.conn.Place.TheVariants.{Idle, Lent, Opening, Closing}
+use Rattle.dsql_engine_hearing.specs.pool.declared.conn.Place.TheVariants.{Lent}
 use Rattle.dsql_engine_hearing.specs.history.declared.event.Event.{Event}
-use Rattle.dsql_engine_hearing.specs.history.declared.event.Event.TheVariants.{Run, Entered, Heard, Pool, Waits, Ticked, SetLimit, Replied, Ended}
+use Rattle.dsql_engine_hearing.specs.history.declared.event.Event.TheVariants.{Run}
 use Rattle.dsql_engine_hearing.specs.history.Readers.Pool.{place}
 use Rattle.dsql_engine_hearing.specs.history.Rules.Line.{is_due_at, may_come, parts}
 use Rattle.dsql_engine_hearing.specs.laws_due.Carried.{carried}
@@ -57,21 +57,11 @@ answered_in p a tx =
 
 same_due : (H : List Event) (at : Option Place) (e : Entry) (k : ℕ) → is_due_at H at (record e { tx = k }) ≡ is_due_at H at e
 same_due H (Some (Lent t own)) e k = refl
-same_due H (Some Idle) e k = refl
-same_due H (Some (Opening wanted)) e k = refl
-same_due H (Some Closing) e k = refl
-same_due H None e k = refl
+same_due H _ e k = refl
 
 same_parts : (x : Event) (e : Entry) (k : ℕ) → parts x (record e { tx = k }) ≡ parts x e
 same_parts (Run version can) e k = refl
-same_parts (Entered client n op) e k = refl
-same_parts (Heard last) e k = refl
-same_parts (Pool move) e k = refl
-same_parts (Waits n) e k = refl
-same_parts (Ticked now) e k = refl
-same_parts (SetLimit setting n) e k = refl
-same_parts (Replied n reply) e k = refl
-same_parts Ended e k = refl
+same_parts _ e k = refl
 
 pub comes_with : (H : List Event) (e : Entry) (k : ℕ) → may_come H (record e { tx = k }) ≡ may_come H e
 comes_with [] e k = refl

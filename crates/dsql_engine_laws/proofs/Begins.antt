@@ -10,11 +10,11 @@ use Rattle.dsql_engine_hearing.specs.wait.Requests.{waits}
 use Rattle.dsql_engine_hearing.specs.pool.Calls.{wants}
 use Rattle.dsql_engine_hearing.specs.pool.Places.{is_for}
 use Rattle.dsql_engine_hearing.specs.pool.declared.conn.Place.{Place}
-use Rattle.dsql_engine_hearing.specs.pool.declared.conn.Place.TheVariants.{Idle, Lent, Opening, Closing}
+use Rattle.dsql_engine_hearing.specs.pool.declared.conn.Place.TheVariants.{Lent}
 use Rattle.dsql_engine_hearing.specs.history.declared.event.Event.{Event}
 use Rattle.dsql_engine_hearing.specs.history.declared.record.Flight.{Flight}
 use Rattle.dsql_engine_hearing.specs.history.declared.record.Stand.{Stand}
-use Rattle.dsql_engine_hearing.specs.history.declared.record.Stand.TheVariants.{Waits, Opens, Sends, Replies, Asks}
+use Rattle.dsql_engine_hearing.specs.history.declared.record.Stand.TheVariants.{Sends, Replies, Asks}
 use Rattle.dsql_engine_hearing.specs.history.Readers.Calls.{site}
 use Rattle.dsql_engine_hearing.specs.history.Readers.Pool.{place, pool}
 use Rattle.dsql_engine_hearing.specs.history.Readers.Tries.{asks_again, tries}
@@ -50,11 +50,7 @@ known_more H n c false flights u h =
 
 known_permitted : (H : List Event) (n : ℕ) (at : Option Stand) (flights : List Flight) → is_unfinished H n ≡ true → are_of_unfinished H flights ≡ true → are_of_unfinished H (permitted n at flights) ≡ true
 known_permitted H n (Some (Sends c)) flights u h = known_more H n c (is_in_flight n flights || has_flight c flights) flights u h
-known_permitted H n (Some Waits) flights u h = h
-known_permitted H n (Some (Opens c)) flights u h = h
-known_permitted H n (Some Replies) flights u h = h
-known_permitted H n (Some Asks) flights u h = h
-known_permitted H n None flights u h = h
+known_permitted H n _ flights u h = h
 
 known_stand : (H : List Event) (n : ℕ) (flights : List Flight) → are_of_unfinished H flights ≡ true → are_of_unfinished H (permitted n (stand H n) flights) ≡ true
 known_stand H n flights h = by (is_unfinished H n) refl
@@ -96,10 +92,7 @@ none_of (Some call) h = absurd cc
 
 none_sent : (n c : ℕ) (at : Option Place) → sent_at n c at None ≡ None
 none_sent n c (Some (Lent t own)) = refl
-none_sent n c (Some Idle) = refl
-none_sent n c (Some (Opening wanted)) = refl
-none_sent n c (Some Closing) = refl
-none_sent n c None = refl
+none_sent n c _ = refl
 
 -- A call that stands where it replies or asks again hasn't gone on.
 none_next : (H : List Event) (n : ℕ) (flights : List Flight) (told again : Bool) → is_some (due_for H n) ≡ false → sends_unless H n (why_blocked flights n (or_else (stands told Replies) (stands again Asks))) ≡ None

@@ -5,7 +5,7 @@ use Rattle.dsql_engine_hearing.specs.journal.declared.entry.Permit.{Permit}
 use Rattle.dsql_engine_hearing.specs.history.declared.event.Event.{Event}
 use Rattle.dsql_engine_hearing.specs.history.declared.record.Flight.{Flight}
 use Rattle.dsql_engine_hearing.specs.history.declared.record.Stand.{Stand}
-use Rattle.dsql_engine_hearing.specs.history.declared.record.Stand.TheVariants.{Waits, Opens, Sends, Replies, Asks}
+use Rattle.dsql_engine_hearing.specs.history.declared.record.Stand.TheVariants.{Sends}
 use Rattle.dsql_engine_hearing.specs.history.Readers.Unfinished.{is_unfinished}
 use Rattle.dsql_engine_hearing.specs.history.Rules.Flights.{is_taken, permitted}
 use Rattle.dsql_engine_hearing.specs.history.Rules.Line.{due_for}
@@ -32,16 +32,12 @@ sends_nothing_still (Some permit) next h still =
     absurd cc
 
 same_where_it_stands : (H : List Event) (n : ℕ) (at : Option Stand) (before : List Flight) (next : Next) → sends_unless H n (why_blocked before n at) ≡ Some next → is_still next ≡ true → permitted n at before ≡ before
-same_where_it_stands H n (Some Waits) before next h still = refl
-same_where_it_stands H n (Some (Opens c)) before next h still = refl
 same_where_it_stands H n (Some (Sends c)) before next h still = by (is_taken n c before) refl h
   where
     by : (b : Bool) → is_taken n c before ≡ b → sends_unless H n (cond b (Some (Turn c)) None) ≡ Some next → permitted n (Some (Sends c)) before ≡ before
     by true taken k = taken_stays n c before taken
     by false taken k = sends_nothing_still (permit_for H n) next k still
-same_where_it_stands H n (Some Replies) before next h still = refl
-same_where_it_stands H n (Some Asks) before next h still = refl
-same_where_it_stands H n None before next h still = refl
+same_where_it_stands H n _ before next h still = refl
 
 same_when_still : (H : List Event) (before after : List Flight) (n : ℕ) (next : Next) → is_still next ≡ true → HasGoneOn H before after n next → after ≡ before
 same_when_still H before after n next still went = went.flights ∙ by (is_unfinished H n) refl went.answers

@@ -9,7 +9,7 @@ use Rattle.dsql_engine_hearing.specs.driver.Fits.{is_done}
 use Rattle.dsql_engine_hearing.specs.driver.Kinds.{is_bad, is_begin, is_connect, is_ending, is_shut, is_valid}
 use Rattle.dsql_engine_hearing.specs.driver.declared.caps.Caps.{Caps}
 use Rattle.dsql_engine_hearing.specs.driver.declared.call.DriverCall.{DriverCall}
-use Rattle.dsql_engine_hearing.specs.driver.declared.call.DriverCall.TheVariants.{Connect, Reset, Valid, Ping, Prepare, CloseStmt, Exec, Query, Next, CloseRows, Begin, Commit, Rollback, Shut}
+use Rattle.dsql_engine_hearing.specs.driver.declared.call.DriverCall.TheVariants.{Connect, Reset, Valid, Ping, Prepare, CloseStmt, Exec, Query, Next, CloseRows, Begin, Commit, Shut}
 use Rattle.dsql_engine_hearing.specs.driver.declared.call.Input.{Input}
 use Rattle.dsql_engine_hearing.specs.driver.declared.call.Input.TheVariants.{Text, Handle}
 use Rattle.dsql_engine_hearing.specs.driver.declared.call.Level.{Level}
@@ -101,9 +101,7 @@ test_within can = either_within can.validator (Some Valid) None refl refl
 
 run_within : (aim : Aim) (input : Input) (params : List Param) → is_within (Some (run_for aim input params)) ≡ true
 run_within aims.Execute input params = refl
-run_within aims.ReadOne input params = refl
-run_within aims.HandOut input params = refl
-run_within aims.Ping input params = refl
+run_within _ input params = refl
 
 sent_within : (can : Caps) (asked : Asked) (d : Due) → is_within (sent_as can asked d) ≡ true
 sent_within can asked due.Text = run_within asked.aim (Text asked.text) asked.params
@@ -173,9 +171,7 @@ first_within H k n (w ∷ ws) =
 
 ended_within : (end : TxEnd) → is_within (Some (ended_by_call end)) ≡ true
 ended_within ends.Commit = refl
-ended_within ends.Rollback = refl
-ended_within (ends.Cancel cause) = refl
-ended_within ends.EndOfRun = refl
+ended_within _ = refl
 
 after_within : (H : List Event) (bad : Bool) (end : TxEnd) (heard : List Entry) → is_within (end_after H bad end heard) ≡ true
 after_within H bad end heard =
@@ -210,8 +206,7 @@ due_in_within H m works_of.Look = refl
 due_in_within H m (works_of.Execute s) = inside_within H m s
 due_in_within H m (works_of.ReadOne s dests) = inside_within H m s
 due_in_within H m (works_of.HandOut s label) = inside_within H m s
-due_in_within H m (works_of.Begin label level read_only) = inside_within H m Db
-due_in_within H m works_of.Ping = inside_within H m Db
+due_in_within H m _ = inside_within H m Db
 
 due_within : (H : List Event) (m : ℕ) → is_within (due_for H m) ≡ true
 due_within H m = either_within (is_unfinished H m) (due_in H m (work H m)) None (due_in_within H m (work H m)) refl

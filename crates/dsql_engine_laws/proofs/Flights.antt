@@ -1,11 +1,11 @@
 -- The flights, as one driver call lands or another begins.
-use Rattle.std.proofs.Common.{◌≡◌, ◌≢◌, ℕ, ◌==◌, Bool, true, false, not, ◌&&◌, ◌||◌, cond, List, [], ◌∷◌, ◌++◌, Option, Some, None, refl, sym, ap, ◌∙◌, arith}
+use Rattle.std.proofs.Common.{◌≡◌, ◌≢◌, ℕ, ◌==◌, Bool, true, false, not, ◌&&◌, ◌||◌, cond, List, [], ◌∷◌, ◌++◌, Option, Some, refl, sym, ap, ◌∙◌, arith}
 use Rattle.std.specs.List.{list_any}
 use Rattle.std.proofs.lemmas.Bool.Decides.{nat_tests}
 use Rattle.std.proofs.lemmas.List.Folds.{list_any-append}
 use Rattle.dsql_engine_hearing.specs.history.declared.record.Flight.{Flight}
 use Rattle.dsql_engine_hearing.specs.history.declared.record.Stand.{Stand}
-use Rattle.dsql_engine_hearing.specs.history.declared.record.Stand.TheVariants.{Waits, Opens, Sends, Replies, Asks}
+use Rattle.dsql_engine_hearing.specs.history.declared.record.Stand.TheVariants.{Sends}
 use Rattle.dsql_engine_hearing.specs.history.Rules.Flights.{has_flight, is_in_flight, is_taken, permitted, without_flight}
 use Rattle.dsql_engine_hearing.proofs.laws.Places.{neither}
 use Rattle.dsql_engine_hearing.proofs.laws.Tests.{both, same_number}
@@ -134,11 +134,7 @@ apart_permitted n (Some (Sends c)) flights apart = by (is_in_flight n flights ||
     by : (b : Bool) → (is_in_flight n flights || has_flight c flights) ≡ b → is_apart (cond b flights (flights ++ record { call = n; conn = c } ∷ [])) ≡ true
     by true is = apart
     by false is = let none = neither (is_in_flight n flights) (has_flight c flights) is in apart_more n c flights apart none.0 none.1
-apart_permitted n (Some Waits) flights apart = apart
-apart_permitted n (Some (Opens c)) flights apart = apart
-apart_permitted n (Some Replies) flights apart = apart
-apart_permitted n (Some Asks) flights apart = apart
-apart_permitted n None flights apart = apart
+apart_permitted n _ flights apart = apart
 
 -- A driver call that is under way stays under way as another begins.
 pub flies_on : (m d n : ℕ) (at : Option Stand) (flights : List Flight) → flies m d flights ≡ true → flies m d (permitted n at flights) ≡ true
@@ -147,11 +143,7 @@ flies_on m d n (Some (Sends c)) flights h = by (is_in_flight n flights || has_fl
     by : (b : Bool) → flies m d (cond b flights (flights ++ record { call = n; conn = c } ∷ [])) ≡ true
     by true = h
     by false = list_any-append (λ (y : Flight). (y.call == m) && (y.conn == d)) flights (record { call = n; conn = c } ∷ []) ∙ rw h refl
-flies_on m d n (Some Waits) flights h = h
-flies_on m d n (Some (Opens c)) flights h = h
-flies_on m d n (Some Replies) flights h = h
-flies_on m d n (Some Asks) flights h = h
-flies_on m d n None flights h = h
+flies_on m d n _ flights h = h
 
 -- Only this call's driver call is new.
 pub flew_before : (m d n : ℕ) (at : Option Stand) (flights : List Flight) → m ≢ n → flies m d (permitted n at flights) ≡ true → flies m d flights ≡ true
@@ -162,11 +154,7 @@ flew_before m d n (Some (Sends c)) flights apart h = by (is_in_flight n flights 
     by false k =
         let split = list_any-append (λ (y : Flight). (y.call == m) && (y.conn == d)) flights (record { call = n; conn = c } ∷ []) in
         grind (arith, nat_tests, split, k, apart)
-flew_before m d n (Some Waits) flights apart h = h
-flew_before m d n (Some (Opens c)) flights apart h = h
-flew_before m d n (Some Replies) flights apart h = h
-flew_before m d n (Some Asks) flights apart h = h
-flew_before m d n None flights apart h = h
+flew_before m d n _ flights apart h = h
 
 -- If neither the call nor the connection has a driver call under way, one begins, after all others.
 

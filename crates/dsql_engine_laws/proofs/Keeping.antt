@@ -5,7 +5,7 @@ use Rattle.std.proofs.lemmas.Bool.Decides.{nat_tests}
 use Rattle.dsql_engine_hearing.specs.journal.declared.entry.Entry.{Entry}
 use Rattle.dsql_engine_hearing.proofs.pool.Rows.{all_filter, all_pass}
 use Rattle.dsql_engine_hearing.specs.history.declared.event.Event.{Event}
-use Rattle.dsql_engine_hearing.specs.history.declared.event.Event.TheVariants.{Run, Entered, Heard, Pool, Waits, Ticked, SetLimit, Replied, Ended}
+use Rattle.dsql_engine_hearing.specs.history.declared.event.Event.TheVariants.{Entered, Heard, Replied}
 use Rattle.dsql_engine_hearing.specs.history.declared.record.Flight.{Flight}
 use Rattle.dsql_engine_hearing.specs.history.declared.reply.Reply.{Reply}
 use Rattle.dsql_engine_hearing.specs.history.Readers.Unfinished.{is_unfinished}
@@ -77,13 +77,7 @@ known_on : (H : List Event) (x : Event) (flights : List Flight) → Spares x fli
 known_on H (Entered client n op) flights spared h =
     all_pass (λ (f : Flight). is_unfinished H f.call) (λ (f : Flight). is_unfinished (Entered client n op ∷ H) f.call) flights (λ f u. enters_unfinished H client n op f.call u) h
 known_on H (Replied n reply) flights spared h = known_replied H n reply flights spared h
-known_on H (Run version can) flights spared h = h
-known_on H (Heard e) flights spared h = h
-known_on H (Pool move) flights spared h = h
-known_on H (Waits n) flights spared h = h
-known_on H (Ticked now) flights spared h = h
-known_on H (SetLimit setting n) flights spared h = h
-known_on H Ended flights spared h = h
+known_on H _ flights spared h = h
 
 -- A call that has its reply has no driver call under way.
 pub done_parked : (H : List Event) (n : ℕ) (flights : List Flight) → is_unfinished H n ≡ false → are_of_unfinished H flights ≡ true → is_in_flight n flights ≡ false
@@ -116,13 +110,7 @@ was_unfinished H (Entered client n op) c l u =
     let apart : m ≢ n = λ same. absurd (omega (arith, new, many, less, same)) in
     sym (old_unfinished H client n op m apart) ∙ u
 was_unfinished H (Replied n reply) c l u = let k = still_unfinished H n reply (sender_at H c) u in k.1
-was_unfinished H (Run version can) c l u = u
-was_unfinished H (Heard e) c l u = u
-was_unfinished H (Pool move) c l u = u
-was_unfinished H (Waits n) c l u = u
-was_unfinished H (Ticked now) c l u = u
-was_unfinished H (SetLimit setting n) c l u = u
-was_unfinished H Ended c l u = u
+was_unfinished H _ c l u = u
 
 as_before : (u v f : Bool) → (v ≡ true → u ≡ true) → (not u || f) ≡ true → (not v || f) ≡ true
 as_before u false f more h = refl

@@ -7,7 +7,7 @@ use Rattle.std.proofs.lemmas.List.Folds.{list_all-append}
 use Rattle.dsql_engine_hearing.specs.journal.declared.entry.Entry.{Entry}
 use Rattle.dsql_engine_hearing.specs.journal.Kinds.{is_house, number_of}
 use Rattle.dsql_engine_hearing.specs.pool.declared.conn.Place.{Place}
-use Rattle.dsql_engine_hearing.specs.pool.declared.conn.Place.TheVariants.{Idle, Lent, Opening, Closing}
+use Rattle.dsql_engine_hearing.specs.pool.declared.conn.Place.TheVariants.{Lent, Opening}
 use Rattle.dsql_engine_hearing.specs.pool.declared.moves.Move.{Move}
 use Rattle.dsql_engine_hearing.specs.pool.declared.request.Asked.{Asked}
 use Rattle.dsql_engine_hearing.specs.pool.declared.request.Asked.TheVariants as asked
@@ -106,7 +106,4 @@ heard_later H e (Some (Lent t own)) =
     let G : List Event = Heard e ∷ H in
     let left : List Event = let_go e.conn (number_of own) G in
     either_later n (is_house own) G (with_owed G) (gone_on n left) (owed_later n G) (joined n G left (gone_on n left) (let_go_later n e.conn (number_of own) G) (gone_later n left))
-heard_later H e (Some Idle) = owed_later e.call_no (Heard e ∷ H)
-heard_later H e (Some (Opening wanted)) = owed_later e.call_no (Heard e ∷ H)
-heard_later H e (Some Closing) = owed_later e.call_no (Heard e ∷ H)
-heard_later H e None = owed_later e.call_no (Heard e ∷ H)
+heard_later H e _ = owed_later e.call_no (Heard e ∷ H)

@@ -21,7 +21,7 @@ use Rattle.dsql_engine_hearing.specs.pool.declared.conn.Place.TheVariants.{Lent}
 use Rattle.dsql_engine_hearing.proofs.laws.Tests.{both, other_number, same_itself, same_number, together}
 use Rattle.dsql_engine_hearing.specs.exchanged.Filled.{Carries}
 use Rattle.dsql_engine_hearing.specs.history.declared.event.Event.{Event}
-use Rattle.dsql_engine_hearing.specs.history.declared.event.Event.TheVariants.{Run, Entered, Heard, Pool, Waits, Ticked, SetLimit, Replied, Ended}
+use Rattle.dsql_engine_hearing.specs.history.declared.event.Event.TheVariants.{Run, Heard, Pool, Waits, Replied}
 use Rattle.dsql_engine_hearing.specs.history.declared.work.Work.TheVariants.{Look}
 use Rattle.dsql_engine_hearing.specs.history.Readers.Journals.{journal}
 use Rattle.dsql_engine_hearing.specs.history.Readers.Pool.{place, pool}
@@ -50,14 +50,7 @@ use Rattle.dsql_engine_laws.proofs.Due.{due_of_call}
 
 parts_alike : (x : Event) (p : Permit) (a b : DriverAnswer) → parts x (entry_of p a) ≡ parts x (entry_of p b)
 parts_alike (Run version can) p a b = refl
-parts_alike (Entered client n op) p a b = refl
-parts_alike (Heard e) p a b = refl
-parts_alike (Pool move) p a b = refl
-parts_alike (Waits n) p a b = refl
-parts_alike (Ticked now) p a b = refl
-parts_alike (SetLimit setting n) p a b = refl
-parts_alike (Replied n reply) p a b = refl
-parts_alike Ended p a b = refl
+parts_alike _ p a b = refl
 
 -- The connection of the leave stays lent.
 still_lent : (H : List Event) (x : Event) (p : Permit) → Lawful (x ∷ H) → IsLeave H p → place (x ∷ H) p.conn ≡ Some (Lent p.tenure p.owner)

@@ -23,7 +23,7 @@ use Rattle.dsql_tenure.proofs.Standing.{beginning-more}
 use Rattle.dsql_wire.specs.Journaled.{MayBeSent}
 use Rattle.dsql_wire.specs.Opening.{opens}
 use Rattle.dsql_engine_hearing.specs.pool.declared.conn.Place.{Place}
-use Rattle.dsql_engine_hearing.specs.pool.declared.conn.Place.TheVariants.{Idle, Lent, Opening, Closing}
+use Rattle.dsql_engine_hearing.specs.pool.declared.conn.Place.TheVariants.{Lent, Opening, Closing}
 use Rattle.dsql_engine_hearing.specs.pool.declared.moves.Move.{Move}
 use Rattle.dsql_engine_hearing.specs.pool.Places.{is_closing, is_opening}
 use Rattle.dsql_engine_hearing.specs.pool.Pooled.{next_tenure}
@@ -199,8 +199,7 @@ chore_there H c p (Some (Lent t own)) l owing is k = by (tidying H (number_of ow
     by : (d : Option DriverCall) → tidying H (number_of own) ≡ d → option_map (call_permit c t own 0) d ≡ Some p → IsChore H c p
     by None due j = absurd cc
     by (Some q) due j = let same : call_permit c t own 0 q ≡ p = cc in subst (λ (x : Permit). IsChore H c x) same (tidies H c t own q l is due)
-chore_there H c p (Some Idle) l owing is k = absurd cc
-chore_there H c p None l owing is k = absurd cc
+chore_there H c p _ l owing is k = absurd cc
 
 -- The connection's journal lets the layer's driver call be sent.
 chore_sent : (H : List Event) (c : ℕ) (p : Permit) → Lawful H → IsChore H c p → MayBeSent c (journal H c) p

@@ -9,7 +9,7 @@ use Rattle.dsql_engine_hearing.specs.journal.declared.entry.Owner.{Owner}
 use Rattle.dsql_engine_hearing.specs.journal.Kinds.{number_of}
 use Rattle.dsql_engine_hearing.specs.journal.declared.entry.Permit.{Permit}
 use Rattle.dsql_engine_hearing.specs.pool.declared.conn.Place.{Place}
-use Rattle.dsql_engine_hearing.specs.pool.declared.conn.Place.TheVariants.{Idle, Lent, Opening, Closing}
+use Rattle.dsql_engine_hearing.specs.pool.declared.conn.Place.TheVariants.{Lent, Opening, Closing}
 use Rattle.dsql_engine_hearing.specs.pool.Places.{is_closing, is_lent, is_opening}
 use Rattle.dsql_engine_hearing.specs.pool.Pooled.{next_tenure}
 use Rattle.dsql_engine_hearing.proofs.laws.Tests.{same_number}
@@ -62,8 +62,7 @@ told_at : (H : List Event) (c : ℕ) (p : Permit) (at : Option Place) → chore_
 told_at H c p (Some (Opening wanted)) k = told_connect p (Some (Opening wanted)) (let same : p ≡ house_permit c 1 Connect = cc in ap (λ (x : Permit). x.call) same) refl
 told_at H c p (Some Closing) k = told_shut p (Some Closing) (let same : p ≡ house_permit c (next_tenure (pool H) c) Shut = cc in ap (λ (x : Permit). x.call) same) refl
 told_at H c p (Some (Lent t own)) k = told_lent H c t own p (tidying H (number_of own)) refl k
-told_at H c p (Some Idle) k = absurd cc
-told_at H c p None k = absurd cc
+told_at H c p _ k = absurd cc
 
 pub told_by_kind : (H : List Event) (c : ℕ) (p : Permit) → chore_permit H c ≡ Some p → IsToldBy p.call (place H c)
 told_by_kind H c p k = told_at H c p (place H c) k

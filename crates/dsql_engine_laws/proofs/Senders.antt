@@ -1,12 +1,12 @@
 -- The sender of the newest driver call of a lent connection's tenure: how an event changes it, and that it uses
 -- the connection.
-use Rattle.std.proofs.Common.{◌≡◌, ◌≢◌, ℕ, ◌<◌, ◌==◌, ◌⊎◌, inl, inr, Bool, true, false, cond, List, [], ◌∷◌, length, Option, Some, None, refl, sym, ap, subst, ◌∙◌, arith}
+use Rattle.std.proofs.Common.{◌≡◌, ◌≢◌, ℕ, ◌<◌, ◌==◌, ◌⊎◌, inl, inr, Bool, true, false, cond, List, [], ◌∷◌, length, Option, Some, refl, sym, ap, subst, ◌∙◌, arith}
 use Rattle.dsql_engine_hearing.specs.journal.declared.entry.Entry.{Entry}
 use Rattle.dsql_engine_hearing.specs.journal.declared.entry.Owner.{Owner}
 use Rattle.dsql_engine_hearing.specs.journal.Kinds.{number_of}
 use Rattle.dsql_engine_hearing.specs.journal.Readers.{of_tenure}
 use Rattle.dsql_engine_hearing.specs.pool.declared.conn.Place.{Place}
-use Rattle.dsql_engine_hearing.specs.pool.declared.conn.Place.TheVariants.{Idle, Lent, Opening, Closing}
+use Rattle.dsql_engine_hearing.specs.pool.declared.conn.Place.TheVariants.{Lent}
 use Rattle.dsql_engine_hearing.specs.pool.Calls.{wants}
 use Rattle.dsql_engine_hearing.specs.history.Rules.Wishes.{newest_sender}
 use Rattle.dsql_engine_hearing.proofs.laws.Tests.{other_number, same_number}
@@ -45,10 +45,7 @@ lent_or_silent H c = by (place H c) refl
   where
     by : (at : Option Place) → place H c ≡ at → IsLent H c ⊎ (sender_at H c ≡ 0)
     by (Some (Lent t own)) is = inl (record { tenure = t; owner = own; lent = is })
-    by (Some Idle) is = inr (ap (sender_in H c) is)
-    by (Some (Opening wanted)) is = inr (ap (sender_in H c) is)
-    by (Some Closing) is = inr (ap (sender_in H c) is)
-    by None is = inr (ap (sender_in H c) is)
+    by _ is = inr (ap (sender_in H c) is)
 
 -- How an event changes the sender.
 
@@ -101,10 +98,7 @@ heard_sender H e c = by (place H c)
 
     by : (at : Option Place) → (sender_in (Heard e ∷ H) c at ≡ sender_in H c at) ⊎ SentBy e c (sender_in (Heard e ∷ H) c at)
     by (Some (Lent t own)) = on t (e.conn == c) refl
-    by (Some Idle) = inl refl
-    by (Some (Opening wanted)) = inl refl
-    by (Some Closing) = inl refl
-    by None = inl refl
+    by _ = inl refl
 
 -- A sender uses the connection.
 

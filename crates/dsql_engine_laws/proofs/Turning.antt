@@ -9,7 +9,7 @@ use Rattle.dsql_engine_hearing.specs.journal.declared.entry.Permit.{Permit}
 use Rattle.dsql_engine_hearing.specs.journal.Kinds.{number_of}
 use Rattle.dsql_engine_hearing.specs.journal.Permits.{entry_of}
 use Rattle.dsql_engine_hearing.specs.pool.declared.conn.Place.{Place}
-use Rattle.dsql_engine_hearing.specs.pool.declared.conn.Place.TheVariants.{Idle, Lent, Opening, Closing}
+use Rattle.dsql_engine_hearing.specs.pool.declared.conn.Place.TheVariants.{Lent}
 use Rattle.dsql_engine_hearing.specs.history.declared.event.Event.{Event}
 use Rattle.dsql_engine_hearing.specs.history.declared.record.Flight.{Flight}
 use Rattle.dsql_engine_hearing.specs.history.declared.record.Stand.TheVariants.{Sends}
@@ -56,11 +56,7 @@ given_by H n c permit (Some (Lent t own)) (Some call) lent due h = record { tenu
   where
     inner : Some (call_permit c t own n call) ≡ Some permit → permit ≡ call_permit c t own n call
     inner same = let it : call_permit c t own n call ≡ permit = cc in sym it
-given_by H n c permit (Some (Lent t own)) None lent due h = absurd cc
-given_by H n c permit (Some Idle) d lent due h = absurd cc
-given_by H n c permit (Some (Opening wanted)) d lent due h = absurd cc
-given_by H n c permit (Some Closing) d lent due h = absurd cc
-given_by H n c permit None d lent due h = absurd cc
+given_by H n c permit _ _ lent due h = absurd cc
 
 -- Holds if the call has no reply, isn't blocked, and the permit is its own.
 record Sending (H : List Event) (before : List Flight) (n : ℕ) (permit : Permit) : Type 0 where

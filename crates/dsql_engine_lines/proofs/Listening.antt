@@ -231,9 +231,7 @@ about_closed it q h = by it.cursor it.handle q h
     by (Some rows) handle p k = absurd cc
     by None (Some number) p k = absurd cc
     by None None (calls.Next rows) k = refl
-    by None None (calls.CloseRows rows) k = refl
-    by None None (calls.CloseStmt handle) k = refl
-    by None None p k = refl
+    by None None _ k = refl
 
 not_heard : (n : ℕ) (e : Entry) (it : HeardLine) → (e.call_no == n) ≡ false → is_open it ≡ false → heard_if n e it ≡ it
 not_heard n e it other shut = ap (λ b. cond (b || is_about_open it e.call) (then_heard e it) it) other ∙ ap (λ b. cond b (then_heard e it) it) (about_closed it e.call shut)

@@ -16,7 +16,7 @@ use Rattle.dsql_laws_calls.specs.course.Rows.{closing, closing_of, rows_next_if,
 use Rattle.dsql_laws_calls.specs.course.Steps.{Step, RunText, PrepareText, CloseCursor, CloseHandle, PingIt, UndoIt}
 use Rattle.dsql_laws_calls.specs.journal.declared.entry.Entry.{Entry}
 use Rattle.dsql_laws_calls.specs.works.declared.work.Aim.{Aim}
-use Rattle.dsql_laws_calls.specs.works.declared.work.Aim.TheVariants.{Execute, ReadOne, HandOut, Ping}
+use Rattle.dsql_laws_calls.specs.works.declared.work.Aim.TheVariants.{Execute, Ping}
 use Rattle.dsql_laws_calls.specs.works.Exchanges.{exchanges}
 use Rattle.dsql_laws_calls.specs.works.Line as plain
 use Rattle.dsql_laws_calls.specs.works.Line.{Asked, handed, line_after, sent_as, sent_over, test_of}
@@ -129,9 +129,7 @@ nothing_handed asked h = by asked.aim h
   where
     by : (aim : Aim) → is_some (handed aim []) ≡ true → ⊥
     by Execute k = cc
-    by ReadOne k = cc
-    by HandOut k = cc
-    by Ping k = cc
+    by _ k = cc
 
 pub line_unstated : (can : Caps) (reset_due : Bool) (asked : Asked) (wish : Wish) (line : List Entry) → is_some (handed asked.aim (exchanges line)) ≡ true → is_unstated (line_after can reset_due asked wish line) ≡ true
 line_unstated can reset_due asked wish [] h = absurd (nothing_handed asked h)
