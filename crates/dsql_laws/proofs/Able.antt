@@ -11,7 +11,7 @@ use Rattle.dsql_history.specs.journal.Journal.{is_whole}
 use Rattle.dsql_history.specs.wait.declared.request.Request.{Request}
 use Rattle.dsql_history.specs.pool.declared.conn.Conn.{Conn}
 use Rattle.dsql_history.specs.pool.declared.conn.Place.{Place}
-use Rattle.dsql_history.specs.pool.declared.conn.Place.TheVariants.{Idle, Lent, Opening, Closing}
+use Rattle.dsql_history.specs.pool.declared.conn.Place.TheVariants.{Idle, Opening}
 use Rattle.dsql_history.specs.pool.declared.moves.CloseCause.{CloseCause}
 use Rattle.dsql_history.specs.pool.declared.moves.CloseCause.TheVariants.{IdleFull, DbClosed}
 use Rattle.dsql_history.specs.pool.declared.moves.Move.{Move}
@@ -114,11 +114,7 @@ closing_idle_able J [] p h = refl
 closing_idle_able J (CloseStart c why ∷ ms) p h =
     let a = both (is_idle (place_at p c)) (close_idle ms (moved (CloseStart c why) p)) h in
     together (is_able J p (CloseStart c why)) (are_able J ms (moved (CloseStart c why) p)) (ap (λ b. b || is_opening (place_at p c)) a.0) (closing_idle_able J ms (moved (CloseStart c why) p) a.1)
-closing_idle_able J (OpenStart c n ∷ ms) p h = absurd cc
-closing_idle_able J (Lend c t o n ∷ ms) p h = absurd cc
-closing_idle_able J (Back c ∷ ms) p h = absurd cc
-closing_idle_able J (Gone c ∷ ms) p h = absurd cc
-closing_idle_able J (Fell c n ∷ ms) p h = absurd cc
+closing_idle_able J (_ ∷ ms) p h = absurd cc
 
 pub outdated_able : (J : ℕ → List Entry) (p : Pooled) → Placed p.idle p.conns → are_able J (closings_of_tick p) p ≡ true
 outdated_able J p h = closing_idle_able J (closings_of_tick p) p (outdated_close p h)
@@ -131,9 +127,7 @@ stays_idle x = at x.place refl
   where
     at : (place : Place) → x.place ≡ place → is_idle (Some (unwanted x).place) ≡ is_idle (Some x.place)
     at Idle is = rw is refl
-    at (Lent t o) is = rw is refl
-    at (Opening wanted) is = rw is refl
-    at Closing is = rw is refl
+    at _ is = rw is refl
 
 pub closed_able : (J : ℕ → List Entry) (p : Pooled) → Placed p.idle p.conns → are_able J (moves_closed p) (shut p) ≡ true
 closed_able J p h = closings_able J DbClosed p.idle [] (shut p) (sym (append-nil p.idle)) (placed_map unwanted keeps_number stays_idle p.idle p.conns h)
@@ -167,10 +161,7 @@ opened_able J c p (Some (Opening (Some owner))) is own =
     (together (is_idle (place_at p c) || is_opening (place_at p c)) ((t == t) && (number_of owner == number_of owner)) (from_opening (place_at p c) (ap is_opening is))
     (together (t == t) (number_of owner == number_of owner) (same_itself t) (same_itself (number_of owner))))
 opened_able J c p (Some (Opening None)) is own = unwanted_able J c p (when_unwanted p) own (ap is_opening is)
-opened_able J c p (Some Idle) is own = refl
-opened_able J c p (Some (Lent t owner)) is own = refl
-opened_able J c p (Some Closing) is own = refl
-opened_able J c p None is own = refl
+opened_able J c p _ is own = refl
 
 pub failed_able : (J : ℕ → List Entry) (c : ℕ) (p : Pooled) → is_opening (place_at p c) ≡ true → is_whole (J c) ≡ true → are_able J (moves_failed c p) p ≡ true
 failed_able J c p h whole =
@@ -193,8 +184,6 @@ head_or d (x ∷ xs) = x
 
 -- As a connection is given back, the moves after the first can be made when their turn comes.
 pub back_able : (J : ℕ → List Entry) (c : ℕ) (p : Pooled) (o : Outcome) (m : Move) (ms : List Move) → moves_back c p o ≡ m ∷ ms → list_all is_own_request p.waiting ≡ true → is_lent (place_at p c) ≡ true → are_able J ms (moved m p) ≡ true
-back_able J c p (Closes why) m ms is own h = subst (λ ns. are_able J ns (moved m p) ≡ true) (ap (drop 1) is) refl
-back_able J c p Rests m ms is own h = subst (λ ns. are_able J ns (moved m p) ≡ true) (ap (drop 1) is) refl
 back_able J c p Serves m ms is own h =
     let q = moved (Back c) p in
     let t = next_tenure p c in
@@ -203,3 +192,4 @@ back_able J c p Serves m ms is own h =
     let rest : are_able J (lends_to_oldest c t p.waiting) q ≡ true = oldest_able J c t q p.waiting own idle tenure in
     let first : Back c ≡ m = ap (λ ns. head_or m ns) is in
     subst (λ k. are_able J ms (moved k p) ≡ true) first (subst (λ ns. are_able J ns q ≡ true) (ap (drop 1) is) rest)
+back_able J c p _ m ms is own h = subst (λ ns. are_able J ns (moved m p) ≡ true) (ap (drop 1) is) refl

@@ -1,6 +1,6 @@
 -- Proves that each move which a lawful history owes can be made in its turn. The argument goes through what
 -- each event makes due.
-use Rattle.std.proofs.Common.{◌≡◌, true, false, not, refl, ℕ, ◌==◌, Bool, ◌&&◌, ◌||◌, cond, List, [], ◌∷◌, sym, ap, subst, ◌∙◌, Option, Some, None}
+use Rattle.std.proofs.Common.{◌≡◌, true, false, not, refl, ℕ, ◌==◌, Bool, ◌&&◌, ◌||◌, cond, List, [], ◌∷◌, sym, ap, subst, ◌∙◌, Option, Some}
 use Rattle.dsql_history.specs.driver.declared.call.DriverCall.{DriverCall}
 use Rattle.dsql_history.specs.driver.declared.call.DriverCall.TheVariants as calls
 use Rattle.dsql_history.specs.driver.declared.answer.DriverAnswer.{DriverAnswer}
@@ -19,9 +19,9 @@ use Rattle.dsql_history.proofs.journal.Sentences.{MayFollow-of}
 use Rattle.dsql_history.specs.wait.declared.request.Request.{Request}
 use Rattle.dsql_history.specs.wait.Requests.{without_call}
 use Rattle.dsql_history.specs.pool.declared.conn.Place.{Place}
-use Rattle.dsql_history.specs.pool.declared.conn.Place.TheVariants.{Idle, Lent, Opening, Closing}
+use Rattle.dsql_history.specs.pool.declared.conn.Place.TheVariants.{Opening, Closing}
 use Rattle.dsql_history.specs.pool.declared.moves.Move.{Move}
-use Rattle.dsql_history.specs.pool.declared.moves.Move.TheVariants.{OpenStart, Lend, Back, CloseStart, Gone, Fell}
+use Rattle.dsql_history.specs.pool.declared.moves.Move.TheVariants.{Lend, Back, CloseStart, Fell}
 use Rattle.dsql_history.specs.pool.declared.moves.Outcome.{Outcome}
 use Rattle.dsql_history.specs.pool.Places.{is_lent, is_opening, is_closing}
 use Rattle.dsql_history.specs.pool.Pooled.{Pooled, place_at, next_tenure}
@@ -58,19 +58,13 @@ use Rattle.dsql_laws.proofs.Journals.{keeps_journals_of}
 pub connect_fails : (call : DriverCall) (answer : DriverAnswer) → is_connect call ≡ true → fits_of call answer ≡ true → not (is_memory answer) ≡ true → is_done answer ≡ false → is_failure answer ≡ true
 connect_fails calls.Connect answers.Bad is fits heard not_done = refl
 connect_fails calls.Connect (answers.Fail text) is fits heard not_done = refl
-connect_fails calls.Connect answers.Memory is fits heard not_done = absurd cc
-connect_fails calls.Connect answers.Done is fits heard not_done = absurd cc
-connect_fails calls.Connect _ is fits heard not_done = absurd cc
-connect_fails _ answer is fits heard not_done = absurd cc
+connect_fails _ _ is fits heard not_done = absurd cc
 
 -- Each request that waits belongs to its owner.
 
 same_waiting : (control : Control) (p : Pooled) → list_all is_own_request p.waiting ≡ true → list_all is_own_request (with_control control p).waiting ≡ true
-same_waiting (Tick n) p h = h
 same_waiting (Set MaxOpen n) p h = h
-same_waiting (Set MaxIdle n) p h = h
-same_waiting (Set MaxLife n) p h = h
-same_waiting (Set MaxIdleTime n) p h = h
+same_waiting _ p h = h
 
 left_requests : (n : ℕ) (rs : List Request) → list_all is_own_request rs ≡ true → list_all is_own_request (without_call n rs) ≡ true
 left_requests n rs h = all_filter is_own_request (λ r. not (r.call == n)) rs h
@@ -78,11 +72,7 @@ left_requests n rs h = all_filter is_own_request (λ r. not (r.call == n)) rs h
 pub own_requests : (H : List Event) → list_all is_own_request (pool H).waiting ≡ true
 own_requests [] = refl
 own_requests (Entered client n DbClose ∷ H) = refl
-own_requests (Pool (OpenStart c n) ∷ H) = own_requests H
 own_requests (Pool (Lend c t o n) ∷ H) = left_requests n (pool H).waiting (own_requests H)
-own_requests (Pool (Back c) ∷ H) = own_requests H
-own_requests (Pool (CloseStart c why) ∷ H) = own_requests H
-own_requests (Pool (Gone c) ∷ H) = own_requests H
 own_requests (Pool (Fell c n) ∷ H) = left_requests n (pool H).waiting (own_requests H)
 own_requests (Waits n ∷ H) =
     let own : (n == number_of (owner_of H n)) ≡ true = subst (λ m. (n == m) ≡ true) (sym (owner_number H n)) (same_itself n) in
@@ -142,9 +132,7 @@ heard_able H e (Some (Opening wanted)) l is =
       | false ↦ λ not_done. failed_able J c p (ap is_opening is) (refused_whole H e wanted l is not_done)
     ] refl
 heard_able H e (Some Closing) l is = gone_able (journal (Heard e ∷ H)) e.conn (pool H) (ap is_closing is) (shut_whole H e l is)
-heard_able H e (Some Idle) l is = refl
-heard_able H e (Some (Lent t owner)) l is = refl
-heard_able H e None l is = refl
+heard_able H e _ l is = refl
 
 control_able : (J : ℕ → List Entry) (control : Control) (p : Pooled) → AtRest p → are_able J (controlled control p) (with_control control p) ≡ true
 control_able J (Tick n) p h = outdated_able J (ticked n p) h.placed
@@ -165,10 +153,7 @@ leaving_able H c m is =
 unowed_able : (H : List Event) (m : Move) → Keeps H (Pool m) → owed H ≡ [] → are_able (journal H) (drop 1 (leaving H m)) (with_move H m (pool H)) ≡ true
 unowed_able H (Back c) k none = leaving_able H c (Back c) (second (is_owed H) (is_given_back H c (Back c)) (owes H none) k.causes)
 unowed_able H (CloseStart c why) k none = leaving_able H c (CloseStart c why) (second (is_owed H) (is_given_back H c (CloseStart c why)) (owes H none) k.causes)
-unowed_able H (OpenStart c n) k none = refl
-unowed_able H (Lend c t o n) k none = refl
-unowed_able H (Gone c) k none = refl
-unowed_able H (Fell c n) k none = refl
+unowed_able H _ k none = refl
 
 move_able : (H : List Event) (m : Move) (ms : List Move) → Keeps H (Pool m) → owed H ≡ ms → are_own ms ≡ true → are_able (journal H) ms (pool H) ≡ true → are_able (journal H) (left_of H m ms) (with_move H m (pool H)) ≡ true
 move_able H m [] k is own h = unowed_able H m k is
@@ -181,11 +166,10 @@ move_able H m (due ∷ later) k is own h =
     subst (λ j. are_able (journal H) later (with_move H j (pool H)) ≡ true) same (subst (λ q. are_able (journal H) later q ≡ true) (sym begun_so) b.1)
 
 pub able : (H : List Event) → Lawful H → are_able (journal H) (owed H) (pool H) ≡ true
-able [] l = refl
 able (Entered client n DbClose ∷ H) l = let rest = before_event H (Entered client n DbClose) refl l.1 (rested H l.0) in closed_able (journal H) (pool H) rest.placed
 able (Heard e ∷ H) l = heard_able H e (place H e.conn) l refl
 able (Pool m ∷ H) l = move_able H m (owed H) (keeps_of H (Pool m) l.1) refl (owed_own H) (able H l.0)
 able (Ticked now ∷ H) l = control_able (journal H) (Tick now) (pool H) (before_event H (Ticked now) refl l.1 (rested H l.0))
 able (SetLimit s n ∷ H) l = control_able (journal H) (Set s n) (pool H) (before_event H (SetLimit s n) refl l.1 (rested H l.0))
 able (Ended ∷ H) l = let rest = before_event H Ended refl l.1 (rested H l.0) in closed_able (journal H) (pool H) rest.placed
-able (_ ∷ H) l = refl
+able _ l = refl

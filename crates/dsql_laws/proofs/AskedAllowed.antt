@@ -181,5 +181,4 @@ asked_lawful H n l none may settled = by (ask_outcome H n) refl
     by (Ok (asked.Lent c t)) is = (l, lend_allowed H n c t l none may settled is)
     by (Ok (asked.Opening c)) is = (l, open_allowed H n c none may settled is)
     by (Ok asked.Queued) is = (l, wait_allowed H n none may settled is)
-    by (Ok asked.Closed) is = l
-    by (Err why) is = l
+    by _ is = l

@@ -1,16 +1,16 @@
 -- Proves that the pool of a lawful history is at rest after it has made the moves that it owes. The argument is
 -- by induction over the history.
-use Rattle.std.proofs.Common.{◌&&◌, ◌≡◌, ◌≢◌, ℕ, ◌==◌, Bool, true, false, not, cond, List, [], ◌∷◌, refl, sym, ap, subst, ◌∙◌, Option, Some, None}
-use Rattle.std.specs.Prelude.{drop, Result, Ok, Err}
+use Rattle.std.proofs.Common.{◌&&◌, ◌≡◌, ◌≢◌, ℕ, ◌==◌, Bool, true, false, not, cond, List, [], ◌∷◌, refl, sym, ap, subst, ◌∙◌, Option, Some}
+use Rattle.std.specs.Prelude.{drop, Result, Ok}
 use Rattle.dsql_history.specs.driver.declared.answer.DriverAnswer.{DriverAnswer}
 use Rattle.dsql_history.specs.driver.Fits.{is_done}
 use Rattle.dsql_history.specs.journal.declared.entry.Owner.{Owner}
 use Rattle.dsql_history.specs.journal.Readers.{is_empty}
 use Rattle.dsql_history.specs.wait.declared.request.Request.{Request}
 use Rattle.dsql_history.specs.pool.declared.conn.Place.{Place}
-use Rattle.dsql_history.specs.pool.declared.conn.Place.TheVariants.{Idle, Lent, Opening, Closing}
+use Rattle.dsql_history.specs.pool.declared.conn.Place.TheVariants.{Lent, Opening, Closing}
 use Rattle.dsql_history.specs.pool.declared.moves.Move.{Move}
-use Rattle.dsql_history.specs.pool.declared.moves.Move.TheVariants.{OpenStart, Lend, Back, CloseStart, Gone, Fell}
+use Rattle.dsql_history.specs.pool.declared.moves.Move.TheVariants.{OpenStart, Lend, Back, CloseStart}
 use Rattle.dsql_history.specs.pool.declared.request.Asked.{Asked}
 use Rattle.dsql_history.specs.pool.declared.request.Asked.TheVariants as asked
 use Rattle.dsql_history.specs.pool.declared.request.AskFault.{AskFault}
@@ -29,7 +29,7 @@ use Rattle.dsql_history.specs.Same.{is_first}
 use Rattle.dsql_history.specs.Readers.Pool.{with_control, pool, place, request, with_move, wanted_by}
 use Rattle.dsql_history.specs.Readers.Owed.{answered, controlled, fate, given_back, leaving, left_of, owed}
 use Rattle.dsql_history.specs.declared.event.Event.{Event}
-use Rattle.dsql_history.specs.declared.event.Event.TheVariants.{Run, Entered, Heard, Pool, Waits, Ticked, SetLimit, Replied, Ended}
+use Rattle.dsql_history.specs.declared.event.Event.TheVariants.{Entered, Heard, Pool, Waits, Ticked, SetLimit, Ended}
 use Rattle.dsql_history.specs.declared.event.Op.TheVariants.{DbClose}
 use Rattle.dsql_history.specs.Readers.Works.{owner_of}
 use Rattle.dsql_history.specs.Rules.Order.{follows}
@@ -67,14 +67,7 @@ is_move _ = false
 nothing_owed : (ms : List Move) (e : Event) → is_move e ≡ false → follows ms e ≡ true → ms ≡ []
 nothing_owed [] e not_move h = refl
 nothing_owed (m ∷ ms) (Pool k) not_move h = absurd cc
-nothing_owed (m ∷ ms) (Run version can) not_move h = absurd cc
-nothing_owed (m ∷ ms) (Entered client n op) not_move h = absurd cc
-nothing_owed (m ∷ ms) (Heard e) not_move h = absurd cc
-nothing_owed (m ∷ ms) (Waits n) not_move h = absurd cc
-nothing_owed (m ∷ ms) (Ticked now) not_move h = absurd cc
-nothing_owed (m ∷ ms) (SetLimit s n) not_move h = absurd cc
-nothing_owed (m ∷ ms) (Replied n reply) not_move h = absurd cc
-nothing_owed (m ∷ ms) Ended not_move h = absurd cc
+nothing_owed (m ∷ ms) _ not_move h = absurd cc
 
 -- Before an event that isn't a move, the pool is at rest.
 pub before_event : (H : List Event) (e : Event) → is_move e ≡ false → Allowed H e → Rested H → AtRest (pool H)
@@ -86,9 +79,7 @@ answered_rests answer c p (Some (Opening wanted)) is h =
     let failed : AtRest (made (moves_failed c p) p) = rests_after_each_call.after_a_call (call.OpenFailed c) p h (rw is refl) in
     elim (is_done answer) as (λ b. AtRest (made (cond b (moves_opened c p) (moves_failed c p)) p)) [ true ↦ opened | false ↦ failed ]
 answered_rests answer c p (Some Closing) is h = rests_after_each_call.after_a_call (call.GoneFrom c) p h (rw is refl)
-answered_rests answer c p (Some Idle) is h = h
-answered_rests answer c p (Some (Lent t owner)) is h = h
-answered_rests answer c p None is h = h
+answered_rests answer c p _ is h = h
 
 control_rests : (control : Control) (p : Pooled) → AtRest p → AtRest (made (controlled control p) (with_control control p))
 control_rests (Tick n) p h = rests_after_each_call.after_a_call (call.Tick n) p h tt
@@ -99,26 +90,17 @@ control_rests (Set MaxIdleTime n) p h = rests_after_each_call.after_a_call (call
 
 queued_rests : (r : Request) (p : Pooled) (a : Result Asked AskFault) → is_queued a ≡ true → AtRest (after_asked r a p) → AtRest (joined r p)
 queued_rests r p (Ok asked.Queued) is h = h
-queued_rests r p (Ok (asked.Lent c t)) is h = absurd cc
-queued_rests r p (Ok (asked.Opening c)) is h = absurd cc
-queued_rests r p (Ok asked.Closed) is h = absurd cc
-queued_rests r p (Err why) is h = absurd cc
+queued_rests r p _ is h = absurd cc
 
 -- A lending that follows from asking is the one that the pool decides.
 lent_rests : (r : Request) (p : Pooled) (a : Result Asked AskFault) (c t : ℕ) (o : Owner) (n : ℕ) → is_first (moves_asked r a) (Lend c t o n) ≡ true → AtRest (after_asked r a p) → AtRest (moved (Lend c t o n) p)
 lent_rests r p (Ok (asked.Lent d u)) c t o n is h = subst (λ m. AtRest (moved m p)) (move_is (Lend d u r.owner r.call) (Lend c t o n) is) h
-lent_rests r p (Ok asked.Queued) c t o n is h = absurd cc
-lent_rests r p (Ok (asked.Opening d)) c t o n is h = absurd cc
-lent_rests r p (Ok asked.Closed) c t o n is h = absurd cc
-lent_rests r p (Err why) c t o n is h = absurd cc
+lent_rests r p _ c t o n is h = absurd cc
 
 -- An opening that follows from asking is for its request.
 opening_rests : (r : Request) (p : Pooled) (a : Result Asked AskFault) (c n : ℕ) → is_first (moves_asked r a) (OpenStart c n) ≡ true → AtRest (after_asked r a p) → AtRest (begun (Some r.owner) p)
 opening_rests r p (Ok (asked.Opening d)) c n is h = h
-opening_rests r p (Ok asked.Queued) c n is h = absurd cc
-opening_rests r p (Ok (asked.Lent d u)) c n is h = absurd cc
-opening_rests r p (Ok asked.Closed) c n is h = absurd cc
-opening_rests r p (Err why) c n is h = absurd cc
+opening_rests r p _ c n is h = absurd cc
 
 wanted_is : (H : List Event) (n : ℕ) → n ≢ 0 → wanted_by H n ≡ Some (owner_of H n)
 wanted_is H n some = let other : (n == 0) ≡ false = other_number n 0 some in rw other refl
@@ -172,8 +154,7 @@ unowed_rests H (Lend c t o n) l k none h =
     lent_rests (request H n) (pool H) (ask_outcome H n) c t o n a.1 (asked_rests (request H n) (pool H) h)
 unowed_rests H (Back c) l k none h = leaves_rests H c (Back c) (second (is_owed H) (is_given_back H c (Back c)) (owes H none) k.causes) h
 unowed_rests H (CloseStart c why) l k none h = leaves_rests H c (CloseStart c why) (second (is_owed H) (is_given_back H c (CloseStart c why)) (owes H none) k.causes) h
-unowed_rests H (Gone c) l k none h = let clash : true ≡ false = sym k.causes ∙ owes H none in absurd cc
-unowed_rests H (Fell c n) l k none h = let clash : true ≡ false = sym k.causes ∙ owes H none in absurd cc
+unowed_rests H _ l k none h = let clash : true ≡ false = sym k.causes ∙ owes H none in absurd cc
 
 move_rests : (H : List Event) (m : Move) (ms : List Move) → Lawful H → Keeps H (Pool m) → owed H ≡ ms → are_own ms ≡ true → AtRest (made ms (pool H)) → AtRest (made (left_of H m ms) (with_move H m (pool H)))
 move_rests H m [] l k is own h = unowed_rests H m l k is h

@@ -4,7 +4,7 @@ use Rattle.std.proofs.Common.{◌≡◌, ℕ, Bool, true, List, [], ◌∷◌, �
 use Rattle.dsql_history.specs.wait.Requests.{waits}
 use Rattle.dsql_history.specs.pool.declared.conn.Conn.{Conn}
 use Rattle.dsql_history.specs.pool.declared.moves.Move.{Move}
-use Rattle.dsql_history.specs.pool.declared.moves.Move.TheVariants.{Lend, OpenStart, Back, CloseStart, Gone, Fell}
+use Rattle.dsql_history.specs.pool.declared.moves.Move.TheVariants.{Lend, Back, CloseStart, Gone, Fell}
 use Rattle.dsql_history.specs.pool.Places.{conn_of}
 use Rattle.dsql_history.specs.pool.Pooled.{Pooled, place_at, next_tenure, next_number}
 use Rattle.dsql_history.specs.pool.Moved.{moved, made, shut, ticked}
@@ -20,7 +20,7 @@ use Rattle.dsql_history.specs.driver.Fits.{is_done}
 use Rattle.dsql_history.specs.journal.declared.entry.Owner.{Owner}
 use Rattle.dsql_history.specs.wait.declared.request.Request.{Request}
 use Rattle.dsql_history.specs.pool.declared.conn.Place.{Place}
-use Rattle.dsql_history.specs.pool.declared.conn.Place.TheVariants.{Idle, Lent, Opening, Closing}
+use Rattle.dsql_history.specs.pool.declared.conn.Place.TheVariants.{Idle, Opening, Closing}
 use Rattle.dsql_history.specs.pool.declared.moves.CloseCause.{CloseCause}
 use Rattle.dsql_history.specs.pool.declared.moves.CloseCause.TheVariants.{IdleFull, DbClosed}
 use Rattle.dsql_history.specs.pool.declared.moves.Outcome.{Outcome}
@@ -121,10 +121,7 @@ home_found owner (Some x) is =
 opened_deserved : (c : ℕ) (p : Pooled) (at : Option Place) → place_at p c ≡ at → AllDeserved (when_opened at c p) p
 opened_deserved c p (Some (Opening (Some owner))) is = (inr (home_found owner (conn_of c p.conns) is), tt)
 opened_deserved c p (Some (Opening None)) is = unwanted_deserved c p (when_unwanted p)
-opened_deserved c p (Some Idle) is = tt
-opened_deserved c p (Some (Lent t owner)) is = tt
-opened_deserved c p (Some Closing) is = tt
-opened_deserved c p None is = tt
+opened_deserved c p _ is = tt
 
 answered_deserved : (answer : DriverAnswer) (c : ℕ) (p : Pooled) (at : Option Place) → AllDeserved (answered answer c p at) p
 answered_deserved answer c p (Some (Opening wanted)) =
@@ -132,9 +129,7 @@ answered_deserved answer c p (Some (Opening wanted)) =
     let failed : AllDeserved (moves_failed c p) p = without_lendings (moves_failed c p) p (then_lend_none (Fell c (falls_to (place_at p c) p) ∷ []) p refl) in
     elim (is_done answer) as (λ b. AllDeserved (cond b (moves_opened c p) (moves_failed c p)) p) [ true ↦ opened | false ↦ failed ]
 answered_deserved answer c p (Some Closing) = without_lendings (then_openings (Gone c ∷ []) p) p (then_lend_none (Gone c ∷ []) p refl)
-answered_deserved answer c p (Some Idle) = tt
-answered_deserved answer c p (Some (Lent t owner)) = tt
-answered_deserved answer c p None = tt
+answered_deserved answer c p _ = tt
 
 control_deserved : (control : Control) (p : Pooled) → AllDeserved (controlled control p) (with_control control p)
 control_deserved (Tick n) p = without_lendings (controlled (Tick n) p) (ticked n p) (outdated_all is_no_lending (λ c why. refl) (ticked n p))
@@ -155,10 +150,7 @@ leaving_deserved H c m is =
 unowed_deserved : (H : List Event) (m : Move) → Keeps H (Pool m) → owed H ≡ [] → AllDeserved (drop 1 (leaving H m)) (with_move H m (pool H))
 unowed_deserved H (Back c) k none = leaving_deserved H c (Back c) (second (is_owed H) (is_given_back H c (Back c)) (owes H none) k.causes)
 unowed_deserved H (CloseStart c why) k none = leaving_deserved H c (CloseStart c why) (second (is_owed H) (is_given_back H c (CloseStart c why)) (owes H none) k.causes)
-unowed_deserved H (OpenStart c n) k none = tt
-unowed_deserved H (Lend c t o n) k none = tt
-unowed_deserved H (Gone c) k none = tt
-unowed_deserved H (Fell c n) k none = tt
+unowed_deserved H _ k none = tt
 
 move_deserved : (H : List Event) (m : Move) (ms : List Move) → Keeps H (Pool m) → owed H ≡ ms → are_own ms ≡ true → AllDeserved ms (pool H) → AllDeserved (left_of H m ms) (with_move H m (pool H))
 move_deserved H m [] k is own h = unowed_deserved H m k is
@@ -170,11 +162,10 @@ move_deserved H m (due ∷ later) k is own h =
     subst (λ j. AllDeserved later (with_move H j (pool H))) same (subst (λ q. AllDeserved later q) (sym begun_so) (after_first due later (pool H) h))
 
 pub deserved : (H : List Event) → Lawful H → AllDeserved (owed H) (pool H)
-deserved [] l = tt
 deserved (Entered client n DbClose ∷ H) l = without_lendings (owed (Entered client n DbClose ∷ H)) (shut (pool H)) (closings_lend_none DbClosed (shut (pool H)).idle)
 deserved (Heard e ∷ H) l = answered_deserved e.answer e.conn (pool H) (place H e.conn)
 deserved (Pool m ∷ H) l = move_deserved H m (owed H) (keeps_of H (Pool m) l.1) refl (owed_own H) (deserved H l.0)
 deserved (Ticked now ∷ H) l = control_deserved (Tick now) (pool H)
 deserved (SetLimit s n ∷ H) l = control_deserved (Set s n) (pool H)
 deserved (Ended ∷ H) l = without_lendings (owed (Ended ∷ H)) (shut (pool H)) (closings_lend_none DbClosed (shut (pool H)).idle)
-deserved (_ ∷ H) l = tt
+deserved _ l = tt

@@ -6,7 +6,7 @@ use Rattle.dsql_history.specs.journal.declared.entry.Owner.{Owner}
 use Rattle.dsql_history.specs.wait.Requests.{waits}
 use Rattle.dsql_history.specs.pool.declared.conn.Conn.{Conn}
 use Rattle.dsql_history.specs.pool.declared.conn.Place.{Place}
-use Rattle.dsql_history.specs.pool.declared.conn.Place.TheVariants.{Idle, Lent, Opening, Closing}
+use Rattle.dsql_history.specs.pool.declared.conn.Place.TheVariants.{Idle, Opening}
 use Rattle.dsql_history.specs.pool.declared.moves.Move.{Move}
 use Rattle.dsql_history.specs.pool.declared.moves.Move.TheVariants.{OpenStart, Lend, Back, CloseStart, Gone, Fell}
 use Rattle.dsql_history.specs.pool.Changes.{opening, lent, back, closing, unwanted}
@@ -16,7 +16,7 @@ use Rattle.dsql_history.specs.pool.Pooled.{Pooled, next_number}
 use Rattle.dsql_history.specs.pool.Moved.{moved, begun, joined, shut}
 use Rattle.dsql_history.proofs.pool.Frees.{count-more}
 use Rattle.dsql_history.specs.declared.event.Control.{Control}
-use Rattle.dsql_history.specs.declared.event.Setting.TheVariants.{MaxOpen, MaxIdle, MaxLife, MaxIdleTime}
+use Rattle.dsql_history.specs.declared.event.Setting.TheVariants.{MaxOpen}
 use Rattle.dsql_history.specs.declared.event.Control.TheVariants.{Tick, Set}
 use Rattle.dsql_history.specs.Readers.Pool.{with_control, is_home, pool, request, wanted_by}
 use Rattle.dsql_history.specs.declared.event.Event.{Event}
@@ -76,9 +76,7 @@ unlent_home n x = at x.place refl
   where
     at : (place : Place) → x.place ≡ place → cond {A = ℕ} (is_home_of n (unwanted x)) 1 0 ≤ cond {A = ℕ} (is_home_of n x) 1 0
     at Idle is = rw is (omega arith)
-    at (Lent t o) is = rw is (omega arith)
-    at (Opening wanted) is = rw is (omega arith)
-    at Closing is = rw is (omega arith)
+    at _ is = rw is (omega arith)
 
 shut_holds : (n : ℕ) (p : Pooled) → holdings n (shut p) ≤ holdings n p
 shut_holds n p = let few = mapped_fewer (is_home_of n) unwanted p.conns (unlent_home n) in omega (arith, few)
@@ -92,11 +90,8 @@ wanted_home H k n some =
     elim (k == 0) as (λ b. cond {A = ℕ} (is_home n (Opening (cond b None (Some (owner_of H k))))) 1 0 ≤ cond {A = ℕ} (k == n) 1 0) [ true ↦ omega arith | false ↦ rw number (omega arith) ]
 
 same_control : (control : Control) (n : ℕ) (p : Pooled) → holdings n (with_control control p) ≡ holdings n p
-same_control (Tick k) n p = refl
 same_control (Set MaxOpen k) n p = refl
-same_control (Set MaxIdle k) n p = refl
-same_control (Set MaxLife k) n p = refl
-same_control (Set MaxIdleTime k) n p = refl
+same_control _ n p = refl
 
 opens_one : (H : List Event) (c k n : ℕ) → Lawful H → Keeps H (Pool (OpenStart c k)) → n ≢ 0 → holdings n (pool H) ≤ 1 → holdings n (begun (wanted_by H k) (pool H)) ≤ 1
 opens_one H c k n l keeps some had =

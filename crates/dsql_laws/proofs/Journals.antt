@@ -5,7 +5,7 @@ use Rattle.dsql_history.specs.journal.declared.entry.Entry.{Entry}
 use Rattle.dsql_history.specs.journal.Journal.{may_follow, is_whole, IsJournalPrefix}
 use Rattle.dsql_history.proofs.journal.Beginnings.{may_follow-whole}
 use Rattle.dsql_history.proofs.journal.PlainJournals.{IsJournalPrefix-with}
-use Rattle.dsql_history.specs.pool.declared.moves.Move.TheVariants.{OpenStart, Lend, Back, CloseStart, Gone, Fell}
+use Rattle.dsql_history.specs.pool.declared.moves.Move.TheVariants.{Gone, Fell}
 use Rattle.dsql_history.specs.declared.event.Event.{Event}
 use Rattle.dsql_history.specs.declared.event.Event.TheVariants.{Heard, Pool}
 use Rattle.dsql_history.specs.Readers.Journals.{journal}
@@ -48,10 +48,6 @@ wholes (Heard e ∷ H) c l h =
     (λ here. let same : e.conn ≡ c = same_number e.conn c here in subst (λ d. may_follow (journal H d) e ≡ true) same (kept H (Heard e) l.1))
 wholes (Pool (Gone d) ∷ H) c l h = left_now H c d (has_left H c) (kept H (Pool (Gone d)) l.1) (wholes H c l.0) h
 wholes (Pool (Fell d n) ∷ H) c l h = left_now H c d (has_left H c) (kept H (Pool (Fell d n)) l.1) (wholes H c l.0) h
-wholes (Pool (OpenStart d n) ∷ H) c l h = wholes H c l.0 h
-wholes (Pool (Lend d t o n) ∷ H) c l h = wholes H c l.0 h
-wholes (Pool (Back d) ∷ H) c l h = wholes H c l.0 h
-wholes (Pool (CloseStart d why) ∷ H) c l h = wholes H c l.0 h
 wholes (_ ∷ H) c l h = wholes H c l.0 h
 
 pub keeps_journals_of : (H : List Event) → Lawful H → KeepsJournals H

@@ -1,10 +1,10 @@
 -- Proves that the moves which the pool owes are allowed one after another. Each of them can be made in its
 -- turn, and so keeps each rule.
-use Rattle.std.proofs.Common.{◌≡◌, ℕ, ◌==◌, nat_lt, Bool, true, false, not, ◌||◌, List, [], ◌∷◌, refl, ap, subst, ◌∙◌, Option, Some, None}
+use Rattle.std.proofs.Common.{◌≡◌, ℕ, ◌==◌, nat_lt, Bool, true, false, not, ◌||◌, List, [], ◌∷◌, refl, ap, subst, ◌∙◌, Option, Some}
 use Rattle.dsql_history.specs.journal.Readers.{is_empty}
 use Rattle.dsql_history.specs.journal.Journal.{is_whole}
 use Rattle.dsql_history.specs.pool.declared.conn.Place.{Place}
-use Rattle.dsql_history.specs.pool.declared.conn.Place.TheVariants.{Idle, Lent, Opening, Closing}
+use Rattle.dsql_history.specs.pool.declared.conn.Place.TheVariants.{Lent}
 use Rattle.dsql_history.specs.pool.declared.moves.Move.{Move}
 use Rattle.dsql_history.specs.pool.declared.moves.Move.TheVariants.{OpenStart, Lend, Back, CloseStart, Gone, Fell}
 use Rattle.dsql_history.specs.pool.Places.{is_idle, is_lent, is_opening, is_closing}
@@ -41,32 +41,20 @@ owing H m ms is = ap (λ ns. not (is_empty ns)) is
 
 -- A connection that is idle or being opened isn't lent.
 unlent_place : (o : Option Place) → (is_idle o || is_opening o) ≡ true → is_lent o ≡ false
-unlent_place None h = refl
-unlent_place (Some Idle) h = refl
-unlent_place (Some (Opening wanted)) h = refl
-unlent_place (Some Closing) h = refl
 unlent_place (Some (Lent t o)) h = absurd cc
+unlent_place _ h = refl
 
 opening_place : (o : Option Place) → is_opening o ≡ true → is_lent o ≡ false
-opening_place None h = refl
-opening_place (Some Idle) h = refl
-opening_place (Some (Opening wanted)) h = refl
-opening_place (Some Closing) h = refl
 opening_place (Some (Lent t o)) h = absurd cc
+opening_place _ h = refl
 
 lines_alone : (H : List Event) (o : Option Place) → is_lent o ≡ false → leaves_from H o ≡ true
-lines_alone H None h = refl
-lines_alone H (Some Idle) h = refl
-lines_alone H (Some (Opening wanted)) h = refl
-lines_alone H (Some Closing) h = refl
 lines_alone H (Some (Lent t o)) h = absurd cc
+lines_alone H _ h = refl
 
 wholes_alone : (H : List Event) (c : ℕ) (o : Option Place) → is_lent o ≡ false → leaves_whole H c o ≡ true
-wholes_alone H c None h = refl
-wholes_alone H c (Some Idle) h = refl
-wholes_alone H c (Some (Opening wanted)) h = refl
-wholes_alone H c (Some Closing) h = refl
 wholes_alone H c (Some (Lent t o)) h = absurd cc
+wholes_alone H c _ h = refl
 
 or_both : (a b c : Bool) → (a || b) ≡ true → (a || (c || b)) ≡ true
 or_both true b c h = refl
@@ -86,43 +74,31 @@ able_sets H (Fell c n) h = let a = both (is_opening (place H c)) (is_whole (jour
 
 able_limit : (H : List Event) (m : Move) → is_able (journal H) (pool H) m ≡ true → keeps_limit H (Pool m) ≡ true
 able_limit H (OpenStart c n) h = let a = both (c == next_number (pool H)) (nat_lt (open_count (pool H)) (most_allowed (pool H))) h in a.1
-able_limit H (Lend c t o n) h = refl
-able_limit H (Back c) h = refl
-able_limit H (CloseStart c why) h = refl
-able_limit H (Gone c) h = refl
-able_limit H (Fell c n) h = refl
+able_limit H _ h = refl
 
 able_line : (H : List Event) (m : Move) → is_able (journal H) (pool H) m ≡ true → keeps_line H (Pool m) ≡ true
-able_line H (OpenStart c n) h = refl
-able_line H (Lend c t o n) h = refl
 able_line H (Back c) h = lines_alone H (place H c) (opening_place (place H c) h)
 able_line H (CloseStart c why) h = lines_alone H (place H c) (unlent_place (place H c) h)
-able_line H (Gone c) h = refl
-able_line H (Fell c n) h = refl
+able_line H _ h = refl
 
 able_journals : (H : List Event) (m : Move) → is_able (journal H) (pool H) m ≡ true → keeps_journals H (Pool m) ≡ true
-able_journals H (OpenStart c n) h = refl
-able_journals H (Lend c t o n) h = refl
 able_journals H (Back c) h = wholes_alone H c (place H c) (opening_place (place H c) h)
 able_journals H (CloseStart c why) h = wholes_alone H c (place H c) (unlent_place (place H c) h)
 able_journals H (Gone c) h = let a = both (is_closing (place H c)) (is_whole (journal H c)) h in a.1
 able_journals H (Fell c n) h = let a = both (is_opening (place H c)) (is_whole (journal H c)) h in a.1
+able_journals H _ h = refl
 
 owed_asking : (H : List Event) (m : Move) → is_owed H ≡ true → keeps_asking H (Pool m) ≡ true
 owed_asking H (OpenStart c n) h = or_first (is_owed H) (is_asked_for H n (OpenStart c n)) h
 owed_asking H (Lend c t o n) h = or_first (is_owed H) (is_asked_for H n (Lend c t o n)) h
-owed_asking H (Back c) h = refl
-owed_asking H (CloseStart c why) h = refl
-owed_asking H (Gone c) h = refl
-owed_asking H (Fell c n) h = refl
+owed_asking H _ h = refl
 
 owed_causes : (H : List Event) (m : Move) → is_owed H ≡ true → keeps_causes H (Pool m) ≡ true
-owed_causes H (OpenStart c n) h = refl
-owed_causes H (Lend c t o n) h = refl
 owed_causes H (Back c) h = or_first (is_owed H) (is_given_back H c (Back c)) h
 owed_causes H (CloseStart c why) h = or_first (is_owed H) (is_given_back H c (CloseStart c why)) h
 owed_causes H (Gone c) h = h
 owed_causes H (Fell c n) h = h
+owed_causes H _ h = refl
 
 owed_order : (H : List Event) (m : Move) (ms : List Move) → owed H ≡ m ∷ ms → keeps_order H (Pool m) ≡ true
 owed_order H m ms is = ap (λ ns. follows ns (Pool m)) is ∙ move_itself m

@@ -3,7 +3,7 @@ use Rattle.std.proofs.Common.{◌≡◌, ℕ, ◌==◌, Bool, true, List, [], �
 use Rattle.std.specs.List.{list_all}
 use Rattle.dsql_history.specs.wait.declared.request.Request.{Request}
 use Rattle.dsql_history.specs.pool.declared.moves.Move.{Move}
-use Rattle.dsql_history.specs.pool.declared.moves.Move.TheVariants.{OpenStart, Lend, Back, CloseStart, Gone, Fell}
+use Rattle.dsql_history.specs.pool.declared.moves.Move.TheVariants.{OpenStart, Back, CloseStart, Gone, Fell}
 use Rattle.dsql_history.specs.pool.declared.moves.Outcome.{Outcome}
 use Rattle.dsql_history.specs.pool.declared.moves.Outcome.TheVariants.{Serves}
 use Rattle.dsql_history.specs.pool.Pooled.{Pooled, next_tenure, place_at, next_number}
@@ -13,7 +13,7 @@ use Rattle.std.proofs.lemmas.List.Folds.{list_all-append}
 use Rattle.dsql_history.specs.driver.declared.answer.DriverAnswer.{DriverAnswer}
 use Rattle.dsql_history.specs.driver.Fits.{is_done}
 use Rattle.dsql_history.specs.pool.declared.conn.Place.{Place}
-use Rattle.dsql_history.specs.pool.declared.conn.Place.TheVariants.{Idle, Lent, Opening, Closing}
+use Rattle.dsql_history.specs.pool.declared.conn.Place.TheVariants.{Opening, Closing}
 use Rattle.dsql_history.specs.pool.declared.moves.CloseCause.{CloseCause}
 use Rattle.dsql_history.specs.pool.declared.moves.CloseCause.TheVariants.{IdleFull, DbClosed}
 use Rattle.dsql_history.specs.pool.Moved.{made, moved, shut, ticked}
@@ -47,11 +47,7 @@ back_own c p _ = refl
 
 pub own_moved : (H : List Event) (m : Move) (p : Pooled) → is_own m ≡ true → with_move H m p ≡ moved m p
 own_moved H (OpenStart c n) p h = let none : n ≡ 0 = same_number n 0 h in rw none refl
-own_moved H (Lend c t o n) p h = refl
-own_moved H (Back c) p h = refl
-own_moved H (CloseStart c why) p h = refl
-own_moved H (Gone c) p h = refl
-own_moved H (Fell c n) p h = refl
+own_moved H _ p h = refl
 
 openings_own : (k c : ℕ) → are_own (openings k c) ≡ true
 openings_own zero c = refl
@@ -71,12 +67,8 @@ unwanted_own c p Serves = oldest_own c (next_tenure p c) p.waiting
 unwanted_own c p _ = refl
 
 opened_own : (c : ℕ) (p : Pooled) (at : Option Place) → are_own (when_opened at c p) ≡ true
-opened_own c p (Some (Opening (Some owner))) = refl
 opened_own c p (Some (Opening None)) = unwanted_own c p (when_unwanted p)
-opened_own c p (Some Idle) = refl
-opened_own c p (Some (Lent t owner)) = refl
-opened_own c p (Some Closing) = refl
-opened_own c p None = refl
+opened_own c p _ = refl
 
 either_own : (b : Bool) (ms ns : List Move) → are_own ms ≡ true → are_own ns ≡ true → are_own (cond b ms ns) ≡ true
 either_own true ms ns h k = h
@@ -86,9 +78,7 @@ answered_own : (answer : DriverAnswer) (c : ℕ) (p : Pooled) (at : Option Place
 answered_own answer c p (Some (Opening wanted)) =
     either_own (is_done answer) (moves_opened c p) (moves_failed c p) (opened_own c p (place_at p c)) (then_own (Fell c (falls_to (place_at p c) p) ∷ []) p refl)
 answered_own answer c p (Some Closing) = then_own (Gone c ∷ []) p refl
-answered_own answer c p (Some Idle) = refl
-answered_own answer c p (Some (Lent t owner)) = refl
-answered_own answer c p None = refl
+answered_own answer c p _ = refl
 
 surplus_own : (p : Pooled) → are_own (closings_of_setting p) ≡ true
 surplus_own p = closings_own IdleFull (take (length p.idle - p.limits.max_idle) p.idle)
@@ -107,21 +97,17 @@ fewer_own (m ∷ ms) h = let a = both (is_own m) (are_own ms) h in a.1
 leaving_own : (H : List Event) (m : Move) → are_own (leaving H m) ≡ true
 leaving_own H (Back c) = back_own c (pool H) (when_given_back (fate H c) c (pool H))
 leaving_own H (CloseStart c why) = back_own c (pool H) (when_given_back (fate H c) c (pool H))
-leaving_own H (OpenStart c n) = refl
-leaving_own H (Lend c t o n) = refl
-leaving_own H (Gone c) = refl
-leaving_own H (Fell c n) = refl
+leaving_own H _ = refl
 
 left_own : (H : List Event) (m : Move) (ms : List Move) → are_own ms ≡ true → are_own (left_of H m ms) ≡ true
 left_own H m [] h = fewer_own (leaving H m) (leaving_own H m)
 left_own H m (due ∷ later) h = let a = both (is_own due) (are_own later) h in a.1
 
 pub owed_own : (H : List Event) → are_own (owed H) ≡ true
-owed_own [] = refl
 owed_own (Entered client n DbClose ∷ H) = closings_own DbClosed (shut (pool H)).idle
 owed_own (Heard e ∷ H) = answered_own e.answer e.conn (pool H) (place H e.conn)
 owed_own (Pool m ∷ H) = left_own H m (owed H) (owed_own H)
 owed_own (Ticked now ∷ H) = control_own (Tick now) (pool H)
 owed_own (SetLimit s n ∷ H) = control_own (Set s n) (pool H)
 owed_own (Ended ∷ H) = closings_own DbClosed (shut (pool H)).idle
-owed_own (_ ∷ H) = refl
+owed_own _ = refl

@@ -88,13 +88,7 @@ owner_itself House = refl
 
 cause_itself : (a : CloseCause) → same_cause a a ≡ true
 cause_itself Bad = refl
-cause_itself Invalid = refl
-cause_itself OverLimit = refl
-cause_itself IdleFull = refl
-cause_itself Lifetime = refl
-cause_itself IdleTime = refl
-cause_itself DbClosed = refl
-cause_itself Discarded = refl
+cause_itself _ = refl
 
 pub move_itself : (m : Move) → same_move m m ≡ true
 move_itself (OpenStart c n) = together (c == c) (n == n) (same_itself c) (same_itself n)

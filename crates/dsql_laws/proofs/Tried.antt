@@ -4,17 +4,17 @@ use Rattle.std.specs.Prelude.{count_by}
 use Rattle.dsql_history.specs.journal.declared.entry.Owner.{Owner}
 use Rattle.dsql_history.specs.pool.declared.conn.Conn.{Conn}
 use Rattle.dsql_history.specs.pool.declared.conn.Place.{Place}
-use Rattle.dsql_history.specs.pool.declared.conn.Place.TheVariants.{Idle, Lent, Opening, Closing}
+use Rattle.dsql_history.specs.pool.declared.conn.Place.TheVariants.{Idle, Lent}
 use Rattle.dsql_history.specs.pool.Changes.{opening, unwanted, lent, back, closing}
 use Rattle.dsql_history.specs.journal.Kinds.{number_of}
 use Rattle.dsql_history.specs.pool.Pooled.{Pooled, next_number}
 use Rattle.dsql_history.specs.pool.Moved.{shut}
 use Rattle.dsql_history.proofs.pool.Frees.{count-more}
 use Rattle.dsql_history.specs.declared.event.Control.{Control}
-use Rattle.dsql_history.specs.declared.event.Setting.TheVariants.{MaxOpen, MaxIdle, MaxLife, MaxIdleTime}
+use Rattle.dsql_history.specs.declared.event.Setting.TheVariants.{MaxOpen}
 use Rattle.dsql_history.specs.declared.event.Control.TheVariants.{Tick, Set}
 use Rattle.dsql_history.specs.declared.record.Try.{Try}
-use Rattle.dsql_history.specs.declared.record.Try.TheVariants.{Served, Lost, Refused}
+use Rattle.dsql_history.specs.declared.record.Try.TheVariants.{Served, Refused}
 use Rattle.dsql_history.specs.Readers.Pool.{with_control, pool, wanted_by}
 use Rattle.dsql_history.specs.Readers.Tries.{lost, with_try, tries, newest_answer, loses}
 use Rattle.dsql_laws.proofs.Counts.{mapped_fewer, changed_fewer, changed_one_more, gone_fewer}
@@ -43,9 +43,7 @@ unlent n x = at x.place refl
   where
     at : (place : Place) → x.place ≡ place → cond {A = ℕ} (is_lent_out n (unwanted x)) 1 0 ≤ cond {A = ℕ} (is_lent_out n x) 1 0
     at Idle is = rw is (omega arith)
-    at (Lent t o) is = rw is (omega arith)
-    at (Opening wanted) is = rw is (omega arith)
-    at Closing is = rw is (omega arith)
+    at _ is = rw is (omega arith)
 
 pub shut_fewer : (n : ℕ) (p : Pooled) → lent_count n (shut p) ≤ lent_count n p
 shut_fewer n p = mapped_fewer (is_lent_out n) unwanted p.conns (unlent n)
@@ -55,18 +53,12 @@ begun_same n c w conns = let more = count-more (is_lent_out n) (opening c w) con
 
 -- The number of tries stays the same if a try is lost.
 pub lost_count : (b : Bool) (ts : List Try) → length (cond b (lost ts) ts) ≡ length ts
-lost_count true [] = refl
 lost_count true (Served ∷ ts) = refl
-lost_count true (Lost ∷ ts) = refl
-lost_count true (Refused answer ∷ ts) = refl
-lost_count false ts = refl
+lost_count _ _ = refl
 
 pub same_control : (control : Control) (n : ℕ) (p : Pooled) → lent_count n (with_control control p) ≡ lent_count n p
-same_control (Tick k) n p = refl
 same_control (Set MaxOpen k) n p = refl
-same_control (Set MaxIdle k) n p = refl
-same_control (Set MaxLife k) n p = refl
-same_control (Set MaxIdleTime k) n p = refl
+same_control _ n p = refl
 
 -- The call of a lending is its owner's number.
 pub lends_to : (H : List Event) (c t : ℕ) (o : Owner) (n : ℕ) → Allowed H (Pool (Lend c t o n)) → n ≡ number_of o

@@ -6,7 +6,7 @@ use Rattle.dsql_history.specs.journal.declared.entry.Owner.{Owner}
 use Rattle.dsql_history.specs.wait.Requests.{waits}
 use Rattle.dsql_history.specs.pool.declared.conn.Conn.{Conn}
 use Rattle.dsql_history.specs.pool.declared.conn.Place.{Place}
-use Rattle.dsql_history.specs.pool.declared.conn.Place.TheVariants.{Idle, Lent, Opening, Closing}
+use Rattle.dsql_history.specs.pool.declared.conn.Place.TheVariants.{Idle, Opening}
 use Rattle.dsql_history.specs.pool.Changes.{opening, unwanted}
 use Rattle.dsql_history.specs.pool.Places.{conn_of, is_for}
 use Rattle.dsql_history.specs.pool.Pooled.{Pooled, next_number}
@@ -14,8 +14,8 @@ use Rattle.dsql_history.specs.pool.Moved.{begun, shut}
 use Rattle.dsql_history.specs.pool.Calls.{wants}
 use Rattle.dsql_history.proofs.pool.Frees.{passing, count-more, count-cons}
 use Rattle.dsql_history.specs.declared.event.Control.{Control}
-use Rattle.dsql_history.specs.declared.event.Setting.TheVariants.{MaxOpen, MaxIdle, MaxLife, MaxIdleTime}
-use Rattle.dsql_history.specs.declared.event.Control.TheVariants.{Tick, Set}
+use Rattle.dsql_history.specs.declared.event.Setting.TheVariants.{MaxOpen}
+use Rattle.dsql_history.specs.declared.event.Control.TheVariants.{Set}
 use Rattle.dsql_history.specs.Readers.Pool.{place, with_control, is_home}
 use Rattle.dsql_laws.specs.Holdings.{waits_of}
 use Rattle.dsql_laws.proofs.Counts.{waits_some, mapped_fewer}
@@ -53,9 +53,7 @@ unwanted_opening n x = at x.place refl
   where
     at : (place : Place) → x.place ≡ place → cond {A = ℕ} (is_opening_for n (unwanted x)) 1 0 ≤ cond {A = ℕ} (is_opening_for n x) 1 0
     at Idle is = rw is (omega arith)
-    at (Lent t o) is = rw is (omega arith)
-    at (Opening w) is = rw is (omega arith)
-    at Closing is = rw is (omega arith)
+    at _ is = rw is (omega arith)
 
 pub shut_wants : (n : ℕ) (p : Pooled) → wanted n (shut p) ≤ wanted n p
 shut_wants n p = let few = mapped_fewer (is_opening_for n) unwanted p.conns (unwanted_opening n) in omega (arith, few)
@@ -64,11 +62,8 @@ pub begun_wants : (n : ℕ) (w : Option Owner) (p : Pooled) → wanted n (begun 
 begun_wants n w p = let more = count-more (is_opening_for n) (opening (next_number p) w) p.conns in omega (arith, more)
 
 pub same_control : (control : Control) (n : ℕ) (p : Pooled) → wanted n (with_control control p) ≡ wanted n p
-same_control (Tick k) n p = refl
 same_control (Set MaxOpen k) n p = refl
-same_control (Set MaxIdle k) n p = refl
-same_control (Set MaxLife k) n p = refl
-same_control (Set MaxIdleTime k) n p = refl
+same_control _ n p = refl
 
 -- The connections that are being opened for a call and those that are lent to it are counted apart among its
 -- own.
@@ -84,9 +79,7 @@ homes_apart n (x ∷ xs) =
   where
     at : (place : Place) → x.place ≡ place → cond {A = ℕ} (is_opening_for n x) 1 0 + cond {A = ℕ} (is_lent_out n x) 1 0 ≤ cond {A = ℕ} (is_home n x.place) 1 0
     at Idle is = rw is (omega arith)
-    at (Lent t o) is = rw is (omega arith)
-    at (Opening w) is = rw is (omega arith)
-    at Closing is = rw is (omega arith)
+    at _ is = rw is (omega arith)
 
 pub found_counts : (q : Conn → Bool) (c : ℕ) (conns : List Conn) → passing q (conn_of c conns) ≤ count_by q conns
 found_counts q c [] = omega arith

@@ -8,7 +8,7 @@ use Rattle.dsql_history.specs.journal.declared.entry.Owner.{Owner}
 use Rattle.dsql_history.specs.journal.Kinds.{number_of}
 use Rattle.dsql_history.specs.pool.declared.conn.Conn.{Conn}
 use Rattle.dsql_history.specs.pool.declared.conn.Place.{Place}
-use Rattle.dsql_history.specs.pool.declared.conn.Place.TheVariants.{Idle, Lent, Opening, Closing}
+use Rattle.dsql_history.specs.pool.declared.conn.Place.TheVariants.{Idle, Lent, Opening}
 use Rattle.dsql_history.specs.pool.declared.moves.Move.TheVariants.{OpenStart, Lend, Back, CloseStart, Gone, Fell}
 use Rattle.dsql_history.specs.pool.Changes.{lent, back, closing}
 use Rattle.dsql_history.specs.pool.Places.{conn_of, is_for}
@@ -16,9 +16,9 @@ use Rattle.dsql_history.specs.pool.Moved.{begun, joined}
 use Rattle.dsql_history.specs.pool.Calls.{wants}
 use Rattle.dsql_history.proofs.pool.Frees.{passing}
 use Rattle.dsql_history.specs.declared.event.Control.TheVariants.{Tick, Set}
-use Rattle.dsql_history.specs.declared.work.Scope.TheVariants.{Db, Tx}
+use Rattle.dsql_history.specs.declared.work.Scope.TheVariants.{Db}
 use Rattle.dsql_history.specs.declared.work.Work.{Work}
-use Rattle.dsql_history.specs.declared.work.Work.TheVariants.{Execute, ReadOne, HandOut, Begin, End, Ping as Pings, Fetch, Close, Look}
+use Rattle.dsql_history.specs.declared.work.Work.TheVariants.{Execute, ReadOne, HandOut, Begin, Ping as Pings, Look}
 use Rattle.dsql_history.specs.declared.event.Event.{Event}
 use Rattle.dsql_history.specs.declared.event.Event.TheVariants.{Entered, Pool, Waits, Ticked, SetLimit, Ended}
 use Rattle.dsql_history.specs.declared.event.Op.TheVariants.{DbClose}
@@ -132,10 +132,7 @@ sends_where_lent H n w c (Some (Lent t owner)) is h = by (number_of owner == bor
         let counted = found_counts (is_lent_out (borrower H n)) c (pool H).conns in
         omega (arith, one, counted)
     by false other = let none : is_some (line_at H n w c (Some (Lent t owner))) ≡ false = rw other refl in let clash : true ≡ false = sym h ∙ none in absurd cc
-sends_where_lent H n w c (Some Idle) is h = absurd cc
-sends_where_lent H n w c (Some (Opening o)) is h = absurd cc
-sends_where_lent H n w c (Some Closing) is h = absurd cc
-sends_where_lent H n w c None is h = absurd cc
+sends_where_lent H n w c _ is h = absurd cc
 
 own_line : (H : List Event) (n : ℕ) → Lawful H → n ≢ 0 → borrower H n ≡ n → is_some (line_of H n wishes.Nothing) ≡ true → wanted n (pool H) ≡ 0
 own_line H n l some own h =
@@ -162,13 +159,8 @@ sends_in H n (ReadOne Db dests) is l some h = on_database H n l some (rw is refl
 sends_in H n (HandOut Db label) is l some h = on_database H n l some (rw is refl) h
 sends_in H n (Begin label level read_only) is l some h = on_database H n l some (rw is refl) h
 sends_in H n Pings is l some h = on_database H n l some (rw is refl) h
-sends_in H n (Execute (Tx k)) is l some h = of_another H n l some (ap asks is)
-sends_in H n (ReadOne (Tx k) dests) is l some h = of_another H n l some (ap asks is)
-sends_in H n (HandOut (Tx k) label) is l some h = of_another H n l some (ap asks is)
-sends_in H n (End k) is l some h = of_another H n l some (ap asks is)
-sends_in H n (Fetch k) is l some h = of_another H n l some (ap asks is)
-sends_in H n (Close k) is l some h = of_another H n l some (ap asks is)
 sends_in H n Look is l some h = absurd cc
+sends_in H n _ is l some h = of_another H n l some (ap asks is)
 
 -- A call that has something to send wants no connection.
 pub sends_or_wants : (H : List Event) (n : ℕ) → Lawful H → n ≢ 0 → is_some (due_for H n) ≡ true → wants n (pool H) ≡ false

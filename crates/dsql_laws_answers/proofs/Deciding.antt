@@ -14,7 +14,7 @@ use Rattle.dsql_laws_calls.specs.history.declared.record.Try.TheVariants.{Served
 use Rattle.dsql_laws_calls.proofs.laws.Tests.{both, other_number}
 use Rattle.dsql_laws_calls.proofs.laws_work.Rows.{same_or_not}
 use Rattle.dsql_laws_calls.specs.history.declared.event.Event.{Event}
-use Rattle.dsql_laws_calls.specs.history.declared.event.Event.TheVariants.{Run, Entered, Heard, Pool, Waits, Ticked, SetLimit, Replied, Ended}
+use Rattle.dsql_laws_calls.specs.history.declared.event.Event.TheVariants.{Run, Entered, Heard, Pool, Waits, Replied, Ended}
 use Rattle.dsql_laws_calls.specs.history.declared.event.Op.{Op}
 use Rattle.dsql_laws_calls.specs.history.declared.reply.Reply.{Reply}
 use Rattle.dsql_laws_calls.specs.history.declared.work.Work.TheVariants.{Look}
@@ -193,11 +193,8 @@ was_deciding H (Entered client n op) m c t own l calm is other d = was_entered H
 was_deciding H (Pool move) m c t own l calm is other d = was_moved H move m c t own l is d
 was_deciding H (Waits n) m c t own l calm is other d = was_waiting H n m c t own is d
 was_deciding H (Replied n reply) m c t own l calm is other d = was_replying H n reply m c t own is d
-was_deciding H (Ticked now) m c t own l calm is other d =
-    let s = d.settling in
-    from_settled H m c t own l.0 (calm.1 refl) (record { number = s.number; unfinished = s.unfinished; decided = s.decided; tried = s.tried; unresting = s.unresting }) d.uses is
-was_deciding H (SetLimit setting k) m c t own l calm is other d =
-    let s = d.settling in
-    from_settled H m c t own l.0 (calm.1 refl) (record { number = s.number; unfinished = s.unfinished; decided = s.decided; tried = s.tried; unresting = s.unresting }) d.uses is
 was_deciding H Ended m c t own l calm is other d = clash (sym d.sends ∙ none_due_once_ended (Ended ∷ H) m l refl)
 was_deciding H (Run version can) m c t own l calm is other d = absurd (run_first H version can c (Lent t own) l.1 is)
+was_deciding H _ m c t own l calm is other d =
+    let s = d.settling in
+    from_settled H m c t own l.0 (calm.1 refl) (record { number = s.number; unfinished = s.unfinished; decided = s.decided; tried = s.tried; unresting = s.unresting }) d.uses is

@@ -121,10 +121,8 @@ read_still s r a (Some rows) h fit heard lives = absurd cc
 opened : (H : List Event) (w : Work) (m : ℕ) (q : DriverCall) (a : DriverAnswer) (n : ℕ) (s : Step) (R : Made) → is_some (rows_of n (rows_heard H w m q a R)) ≡ true → (is_some (rows_of n R) ≡ true) ⊎ (is_holding (step_after s q a) ≡ true)
 opened H (HandOut x label) m (Query (Text text) params) (Cursor cursor columns) n s R h = inr refl
 opened H (HandOut x label) m (Query (Handle handle) params) (Cursor cursor columns) n s R h = inr refl
-opened H (HandOut x label) m q a n s R h = inl h
 opened H (Fetch k) m (Next cursor) a n s R h = inl (sym (some_changed (fetched a) k n R) ∙ h)
-opened H (Fetch k) m q a n s R h = inl h
-opened H w m q a n s R h = inl h
+opened H _ m q a n s R h = inl h
 
 -- A connection that is lent to a call.
 record OnCall (H : List Event) (c t : ℕ) (own : Owner) : Type 0 where

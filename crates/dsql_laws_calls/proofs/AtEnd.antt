@@ -22,7 +22,7 @@ use Rattle.dsql_laws.specs.history.declared.work.Work.TheVariants.{Look}
 use Rattle.dsql_laws.specs.history.Readers.Works.{works, work}
 use Rattle.dsql_laws.specs.history.Rules.Line.{due_for}
 use Rattle.dsql_laws.specs.history.declared.event.Event.{Event}
-use Rattle.dsql_laws.specs.history.declared.event.Event.TheVariants.{Run, Entered, Heard, Pool, Waits, Ticked, SetLimit, Replied, Ended}
+use Rattle.dsql_laws.specs.history.declared.event.Event.TheVariants.{Entered, Heard, Pool, Waits, Ticked, SetLimit, Replied, Ended}
 use Rattle.dsql_laws.specs.history.declared.event.Op.TheVariants.{DbClose}
 use Rattle.dsql_laws.specs.history.Readers.Course.{has_ended}
 use Rattle.dsql_laws.specs.history.Readers.Unfinished.{unfinished, is_unfinished}
@@ -95,21 +95,17 @@ waiting_unlent H n l some h =
 -- Once the run has ended, a call that has no connection gets none.
 
 pub unlent_stays : (H : List Event) (e : Event) (n : ℕ) → Lawful (e ∷ H) → has_ended H ≡ true → lent_count n (pool H) ≡ 0 → lent_count n (pool (e ∷ H)) ≡ 0
-unlent_stays H (Run version can) n l h none = none
 unlent_stays H (Entered client m DbClose) n l h none = let few = shut_fewer n (pool H) in omega (arith, none, few)
-unlent_stays H (Entered client m op) n l h none = none
-unlent_stays H (Heard e) n l h none = none
 unlent_stays H (Pool (OpenStart c k)) n l h none = let same = begun_same n (next_number (pool H)) (wanted_by H k) (pool H).conns in omega (arith, none, same)
 unlent_stays H (Pool (Lend c t own k)) n l h none = absurd (lends_none H c t own k l.0 l.1 (ended_closed H h))
 unlent_stays H (Pool (Back c)) n l h none = let few = changed_fewer (is_lent_out n) c (back (pool H).moment) (pool H).conns (λ x. refl) in omega (arith, none, few)
 unlent_stays H (Pool (CloseStart c why)) n l h none = let few = changed_fewer (is_lent_out n) c closing (pool H).conns (λ x. refl) in omega (arith, none, few)
 unlent_stays H (Pool (Gone c)) n l h none = let few = gone_fewer (is_lent_out n) c (pool H).conns in omega (arith, none, few)
 unlent_stays H (Pool (Fell c k)) n l h none = let few = gone_fewer (is_lent_out n) c (pool H).conns in omega (arith, none, few)
-unlent_stays H (Waits k) n l h none = none
 unlent_stays H (Ticked now) n l h none = let same = same_control (Tick now) n (pool H) in omega (arith, none, same)
 unlent_stays H (SetLimit s k) n l h none = let same = same_control (Set s k) n (pool H) in omega (arith, none, same)
-unlent_stays H (Replied m reply) n l h none = none
 unlent_stays H Ended n l h none = let few = shut_fewer n (pool H) in omega (arith, none, few)
+unlent_stays H _ n l h none = none
 
 -- If a transaction was ended before its begin had its reply, the end of the run ended it, and it has no
 -- connection.

@@ -2,8 +2,8 @@
 use Rattle.std.proofs.Common.{◌≡◌, Bool, true, false, refl}
 use Rattle.dsql_laws.specs.pool.Pooled.{Pooled}
 use Rattle.dsql_laws.specs.history.declared.event.Control.{Control}
-use Rattle.dsql_laws.specs.history.declared.event.Setting.TheVariants.{MaxOpen, MaxIdle, MaxLife, MaxIdleTime}
-use Rattle.dsql_laws.specs.history.declared.event.Control.TheVariants.{Tick, Set}
+use Rattle.dsql_laws.specs.history.declared.event.Setting.TheVariants.{MaxOpen}
+use Rattle.dsql_laws.specs.history.declared.event.Control.TheVariants.{Set}
 use Rattle.dsql_laws.specs.history.Readers.Pool.{with_control}
 
 pub true_false : (b : Bool) → b ≡ true → b ≡ false → ⊥
@@ -14,15 +14,9 @@ is_false true h = absurd (h refl)
 is_false false h = refl
 
 pub control_conns : (control : Control) (p : Pooled) → (with_control control p).conns ≡ p.conns
-control_conns (Tick k) p = refl
 control_conns (Set MaxOpen k) p = refl
-control_conns (Set MaxIdle k) p = refl
-control_conns (Set MaxLife k) p = refl
-control_conns (Set MaxIdleTime k) p = refl
+control_conns _ p = refl
 
 pub control_opened : (control : Control) (p : Pooled) → (with_control control p).opened ≡ p.opened
-control_opened (Tick k) p = refl
 control_opened (Set MaxOpen k) p = refl
-control_opened (Set MaxIdle k) p = refl
-control_opened (Set MaxLife k) p = refl
-control_opened (Set MaxIdleTime k) p = refl
+control_opened _ p = refl

@@ -23,7 +23,7 @@ use Rattle.dsql_laws.specs.pool.Pooled.{Pooled, next_number}
 use Rattle.dsql_laws.proofs.pool.Frees.{passing}
 use Rattle.dsql_laws.proofs.pool.Rows.{all_filter}
 use Rattle.dsql_laws.specs.history.declared.event.Control.{Control}
-use Rattle.dsql_laws.specs.history.declared.event.Setting.TheVariants.{MaxOpen, MaxIdle, MaxLife, MaxIdleTime}
+use Rattle.dsql_laws.specs.history.declared.event.Setting.TheVariants.{MaxOpen}
 use Rattle.dsql_laws.specs.history.declared.event.Control.TheVariants.{Tick, Set}
 use Rattle.dsql_laws.specs.history.Same.{is_first}
 use Rattle.dsql_laws.specs.history.Readers.Pool.{with_control, is_home, smallest, pool, request, wanted_by}
@@ -31,7 +31,7 @@ use Rattle.dsql_laws.proofs.Tests.{both, together, move_is}
 use Rattle.dsql_laws.proofs.Deserved.{is_home_of, Deserves, AllDeserved, deserved}
 use Rattle.dsql_laws.proofs.ByCall.{by_call}
 use Rattle.dsql_laws.specs.history.declared.event.Event.{Event}
-use Rattle.dsql_laws.specs.history.declared.event.Event.TheVariants.{Run, Entered, Heard, Pool, Waits, Ticked, SetLimit, Replied, Ended}
+use Rattle.dsql_laws.specs.history.declared.event.Event.TheVariants.{Entered, Pool, Waits, Ticked, SetLimit, Ended}
 use Rattle.dsql_laws.specs.history.declared.event.Op.TheVariants.{DbClose}
 use Rattle.dsql_laws.specs.history.Readers.Course.{has_ended}
 use Rattle.dsql_laws.specs.history.Readers.Owed.{owed}
@@ -60,9 +60,7 @@ unwanted_free x = at x.place refl
   where
     at : (place : Place) → x.place ≡ place → is_free (unwanted x).place ≡ true
     at Idle is = rw is refl
-    at (Lent t o) is = rw is refl
-    at (Opening wanted) is = rw is refl
-    at Closing is = rw is refl
+    at _ is = rw is refl
 
 shut_free : (conns : List Conn) → are_free (map unwanted conns) ≡ true
 shut_free conns = list_all-map (λ (x : Conn). is_free x.place) unwanted conns ∙ all_so (λ y. is_free (unwanted y).place) conns unwanted_free
@@ -105,11 +103,8 @@ pub record Shut (p : Pooled) : Type 0 where
   pub free : list_all (λ conn. is_free conn.place) p.conns ≡ true
 
 shut_control : (control : Control) (p : Pooled) → (with_control control p).closed ≡ true → (p.closed ≡ true → Shut p) → Shut (with_control control p)
-shut_control (Tick k) p h so = let x = so h in record { waiting = x.waiting; free = x.free }
 shut_control (Set MaxOpen k) p h so = let x = so h in record { waiting = x.waiting; free = x.free }
-shut_control (Set MaxIdle k) p h so = let x = so h in record { waiting = x.waiting; free = x.free }
-shut_control (Set MaxLife k) p h so = let x = so h in record { waiting = x.waiting; free = x.free }
-shut_control (Set MaxIdleTime k) p h so = let x = so h in record { waiting = x.waiting; free = x.free }
+shut_control _ p h so = let x = so h in record { waiting = x.waiting; free = x.free }
 
 opens_free : (H : List Event) (c k : ℕ) → Allowed H (Pool (OpenStart c k)) → (pool H).closed ≡ true → is_free (Opening (wanted_by H k)) ≡ true
 opens_free H c k a closed =
@@ -156,28 +151,16 @@ closed_shut (_ ∷ H) l h = closed_shut H l.0 h
 -- A closed database stays closed.
 
 control_closed : (control : Control) (p : Pooled) → p.closed ≡ true → (with_control control p).closed ≡ true
-control_closed (Tick k) p h = h
 control_closed (Set MaxOpen k) p h = h
-control_closed (Set MaxIdle k) p h = h
-control_closed (Set MaxLife k) p h = h
-control_closed (Set MaxIdleTime k) p h = h
+control_closed _ p h = h
 
 pub stays_closed : (H : List Event) (e : Event) → (pool H).closed ≡ true → (pool (e ∷ H)).closed ≡ true
-stays_closed H (Run version can) h = h
 stays_closed H (Entered client m DbClose) h = refl
-stays_closed H (Entered client m op) h = h
-stays_closed H (Heard e) h = h
 stays_closed H (Pool (OpenStart c k)) h = h
-stays_closed H (Pool (Lend c t o k)) h = h
-stays_closed H (Pool (Back c)) h = h
-stays_closed H (Pool (CloseStart c why)) h = h
-stays_closed H (Pool (Gone c)) h = h
-stays_closed H (Pool (Fell c k)) h = h
-stays_closed H (Waits k) h = h
 stays_closed H (Ticked now) h = control_closed (Tick now) (pool H) h
 stays_closed H (SetLimit s k) h = control_closed (Set s k) (pool H) h
-stays_closed H (Replied m reply) h = h
 stays_closed H Ended h = refl
+stays_closed H _ h = h
 
 pub ended_closed : (H : List Event) → has_ended H ≡ true → (pool H).closed ≡ true
 ended_closed [] h = absurd cc

@@ -446,11 +446,6 @@ pub due_under_way : (H : List Event) (e : Entry) → Lawful H → Facts H → is
 due_under_way H e l f h = whose (e.call_no == 0) refl (due_now H e h)
   where
     work_of : (d : DueNow H e) → (e.call_no == 0) ≡ false → DueOf H e.call_no e.call → (w : Work) → work H e.call_no ≡ w → is_due (due_in H e.call_no w) e.call ≡ true → UnderWay H e
-    work_of d some o (Execute Db) is x = own_due H e l d some (ap asks is) h o.unfinished
-    work_of d some o (ReadOne Db dests) is x = own_due H e l d some (ap asks is) h o.unfinished
-    work_of d some o (HandOut Db label) is x = own_due H e l d some (ap asks is) h o.unfinished
-    work_of d some o (Begin label level read_only) is x = own_due H e l d some (ap asks is) h o.unfinished
-    work_of d some o Ping is x = own_due H e l d some (ap asks is) h o.unfinished
     work_of d some o (Execute (Tx k)) is x = inside_due H e k l f d some (ap scope is) o
     work_of d some o (ReadOne (Tx k) dests) is x = inside_due H e k l f d some (ap scope is) o
     work_of d some o (HandOut (Tx k) label) is x = inside_due H e k l f d some (ap scope is) o
@@ -458,6 +453,7 @@ due_under_way H e l f h = whose (e.call_no == 0) refl (due_now H e h)
     work_of d some o (Close j) is x = rows_due H e j l f d some (inr is) o.unfinished x
     work_of d some o (End k) is x = end_due H e k l d some is o.unfinished x
     work_of d some o Look is x = absurd cc
+    work_of d some o _ is x = own_due H e l d some (ap asks is) h o.unfinished
 
     whose : (b : Bool) → (e.call_no == 0) ≡ b → DueNow H e → UnderWay H e
     whose true layer d = layer_due H e l f d layer (ap (λ b. is_due (cond b (tidying H (number_of d.owner)) (due_for H e.call_no)) e.call) (sym layer) ∙ d.due)

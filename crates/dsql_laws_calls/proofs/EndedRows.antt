@@ -79,10 +79,8 @@ born_stays false r h = h
 
 kept_heard : (H : List Event) (it : Work) (m n : ℕ) (q : DriverCall) (a : DriverAnswer) (R : Made) → Kept (rows_of n R) (rows_of n (rows_heard H it m q a R))
 kept_heard H (HandOut s label) m n (calls.Query input params) (answers.Cursor cursor columns) R = kept_more m n (born (is_late H s) (fresh cursor columns)) R
-kept_heard H (HandOut s label) m n q a R = kept_same (rows_of n R)
 kept_heard H (Fetch k) m n (calls.Next cursor) a R = kept_changed (fetched a) k n R (fetch_stays a)
-kept_heard H (Fetch k) m n q a R = kept_same (rows_of n R)
-kept_heard H it m n q a R = kept_same (rows_of n R)
+kept_heard H _ m n q a R = kept_same (rows_of n R)
 
 -- A change of all rows, by the number of their call, changes the rows of each call.
 pub mapped_rows : (g : ℕ → Rows → Rows) (n : ℕ) (R : Made) → rows_of n (map (λ (it : ℕ × Rows). (it.0, g it.0 it.1)) R) ≡ option_map (g n) (rows_of n R)

@@ -16,7 +16,7 @@ use Rattle.dsql_laws.specs.history.declared.work.Work.TheVariants.{Execute, Read
 use Rattle.dsql_laws.specs.history.Readers.Works.{asks, works, work, work_of, is_fetch, scope}
 use Rattle.dsql_laws.specs.history.Rules.Line.{due_in, due_for, is_due_at, parts, may_come, sends_in}
 use Rattle.dsql_laws.specs.history.declared.event.Event.{Event}
-use Rattle.dsql_laws.specs.history.declared.event.Event.TheVariants.{Run, Entered, Heard, Pool, Waits, Ticked, SetLimit, Replied, Ended}
+use Rattle.dsql_laws.specs.history.declared.event.Event.TheVariants.{Entered, Heard, Replied, Ended}
 use Rattle.dsql_laws.specs.history.declared.event.Op.{Op}
 use Rattle.dsql_laws.specs.history.Readers.Course.{has_ended}
 use Rattle.dsql_laws.specs.history.Readers.Pool.{pool, place}
@@ -237,13 +237,8 @@ live_after H (Heard e) a o k =
     let looks : work H e.call_no ≡ Look = ap (work H) none ∙ zero_work H in
     ap (λ w. live (rows_of k (rows_heard H w e.call_no e.call e.answer (handed_out H)))) looks ∙ o.live k
 live_after H (Entered client m op) a o k = entering_revives_none H client m op k (o.live k)
-live_after H (Run version can) a o k = o.live k
-live_after H (Pool m) a o k = o.live k
-live_after H (Waits m) a o k = o.live k
-live_after H (Ticked now) a o k = o.live k
-live_after H (SetLimit s m) a o k = o.live k
-live_after H (Replied m reply) a o k = o.live k
 live_after H Ended a o k = none_at_end H k
+live_after H _ a o k = o.live k
 
 -- A call that enters has no connection, and ended no rows.
 pub new_unlent : (H : List Event) (client m : ℕ) (op : Op) → Lawful H → Allowed H (Entered client m op) → lent_count m (pool H) ≡ 0

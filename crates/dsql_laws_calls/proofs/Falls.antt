@@ -29,7 +29,7 @@ use Rattle.dsql_laws.specs.history.Readers.Owed.{answered, controlled, fate, lea
 use Rattle.dsql_laws.proofs.Tests.{both, together, move_is}
 use Rattle.dsql_laws.proofs.Outdated.{outdated_all}
 use Rattle.dsql_laws.specs.history.declared.event.Event.{Event}
-use Rattle.dsql_laws.specs.history.declared.event.Event.TheVariants.{Run, Entered, Heard, Pool, Waits, Ticked, SetLimit, Replied, Ended}
+use Rattle.dsql_laws.specs.history.declared.event.Event.TheVariants.{Entered, Heard, Pool, Ticked, SetLimit, Ended}
 use Rattle.dsql_laws.specs.history.declared.event.Op.TheVariants.{DbClose}
 use Rattle.dsql_laws.specs.history.Readers.Pool.{pool, place}
 use Rattle.dsql_laws.specs.history.Rules.Order.{follows}
@@ -161,14 +161,10 @@ pub falls : (H : List Event) (c n : ℕ) → Allowed H (Pool (Fell c n)) → Fal
 falls H c n a = let k = keeps_of H (Pool (Fell c n)) a in by H k.order k.causes
   where
     by : (K : List Event) → follows (owed K) (Pool (Fell c n)) ≡ true → not (is_empty (owed K)) ≡ true → FallsTo K c n
-    by [] h some = absurd cc
     by (Heard e ∷ K) h some = answered_falls K e c n (place K e.conn) refl h some
-    by (Run version can ∷ K) h some = absurd cc
     by (Entered client m DbClose ∷ K) h some = absurd (first_falls (owed (Entered client m DbClose ∷ K)) c n (closings_fall_none DbClosed (shut (pool K)).idle) h some)
-    by (Entered client m op ∷ K) h some = absurd cc
     by (Pool m ∷ K) h some = absurd (first_falls (left_of K m (owed K)) c n (left_falls_none K m (owed K) (later_falls_none K)) h some)
-    by (Waits m ∷ K) h some = absurd cc
     by (Ticked now ∷ K) h some = absurd (first_falls (controlled (Tick now) (pool K)) c n (control_falls_none (Tick now) (pool K)) h some)
     by (SetLimit s k ∷ K) h some = absurd (first_falls (controlled (Set s k) (pool K)) c n (control_falls_none (Set s k) (pool K)) h some)
-    by (Replied m reply ∷ K) h some = absurd cc
     by (Ended ∷ K) h some = absurd (first_falls (owed (Ended ∷ K)) c n (closings_fall_none DbClosed (shut (pool K)).idle) h some)
+    by _ h some = absurd cc

@@ -5,7 +5,7 @@ use Rattle.std.specs.Option.{option_map, option_map_or, option_or}
 use Rattle.dsql_laws.specs.journal.declared.entry.Owner.{Owner}
 use Rattle.dsql_laws.specs.pool.declared.conn.Conn.{Conn}
 use Rattle.dsql_laws.specs.pool.declared.conn.Place.{Place}
-use Rattle.dsql_laws.specs.pool.declared.conn.Place.TheVariants.{Idle, Lent, Opening, Closing}
+use Rattle.dsql_laws.specs.pool.declared.conn.Place.TheVariants.{Idle, Opening}
 use Rattle.dsql_laws.specs.pool.Places.{conn_of, place_of, lends_of, is_opening}
 use Rattle.dsql_laws.specs.pool.Changes.{changed, gone, opening, lent, unwanted}
 use Rattle.dsql_laws.specs.pool.Pooled.{Pooled, next_number}
@@ -94,9 +94,7 @@ unwanted_conn x = at x.place refl
   where
     at : (place : Place) → x.place ≡ place → (unwanted x).place ≡ unwanted_place x.place
     at Idle is = rw is refl
-    at (Lent t o) is = rw is refl
-    at (Opening wanted) is = rw is refl
-    at Closing is = rw is refl
+    at _ is = rw is refl
 
 unwanted_lends : (x : Conn) → ((unwanted x).lends ≡ x.lends) × ((unwanted x).uses ≡ x.uses)
 unwanted_lends x =

@@ -32,7 +32,7 @@ use Rattle.dsql_laws.specs.history.declared.work.Work.{Work}
 use Rattle.dsql_laws.specs.history.declared.work.Work.TheVariants.{Look}
 use Rattle.dsql_laws.specs.history.Readers.Works.{asks, works, work, work_of, borrower}
 use Rattle.dsql_laws.specs.history.declared.event.Event.{Event}
-use Rattle.dsql_laws.specs.history.declared.event.Event.TheVariants.{Run, Entered, Heard, Pool, Ticked, SetLimit, Replied, Ended}
+use Rattle.dsql_laws.specs.history.declared.event.Event.TheVariants.{Entered, Heard, Pool, Ticked, SetLimit, Replied, Ended}
 use Rattle.dsql_laws.specs.history.declared.event.Op.TheVariants.{DbClose}
 use Rattle.dsql_laws.specs.history.Readers.Owed.{owed}
 use Rattle.dsql_laws.specs.history.Readers.Unfinished.{is_unfinished}
@@ -158,14 +158,8 @@ more_tries true x ts h = omega (arith, h)
 more_tries false x ts h = h
 
 tries_stay : (H : List Event) (e : Event) (n : ℕ) → 1 ≤ length (tries H n) → 1 ≤ length (tries (e ∷ H) n)
-tries_stay H (Run version can) n h = h
-tries_stay H (Entered client m op) n h = h
 tries_stay H (Heard e) n h = let same = lost_count ((e.call_no == n) && loses (work H n) e) (tries H n) in omega (arith, same, h)
-tries_stay H (Pool (OpenStart c k)) n h = h
 tries_stay H (Pool (Lend c t o k)) n h = more_tries (k == n) _ (tries H n) h
-tries_stay H (Pool (Back c)) n h = h
-tries_stay H (Pool (CloseStart c why)) n h = h
-tries_stay H (Pool (Gone c)) n h = h
 tries_stay H (Pool (Fell c k)) n h = more_tries (k == n) _ (tries H n) h
 tries_stay H _ n h = h
 

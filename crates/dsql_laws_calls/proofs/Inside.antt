@@ -247,7 +247,6 @@ heard_live H (HandOut s label) m (Query input params) (Cursor cursor columns) n 
             → (live (cond b (Some z.1) (rows_of n S)) ≡ true) ⊎ ((n ≡ m) × ((k : ℕ) → is_in k s ≡ true → is_over H k ≡ false))
         by rest true y = inl y
         by rest false y = rest y
-heard_live H (HandOut s label) m q a n R h = inl h
 heard_live H (Fetch k) m (Next cursor) a n R h = inl (kept (same_or_not n k))
   where
     kept : (n ≡ k) ⊎ (n ≢ k) → live (rows_of n R) ≡ true
@@ -255,8 +254,7 @@ heard_live H (Fetch k) m (Next cursor) a n R h = inl (kept (same_or_not n k))
         let l = rows_changes in
         not_live (rows_of n R) (fetched a) (fetch_stays a) (sym (ap live (ap (λ j. rows_of n (changed (fetched a) j R)) (sym same) ∙ l.changes (fetched a) n R)) ∙ h)
     kept (inr apart) = let l = rows_changes in sym (ap live (l.others (fetched a) k n R apart)) ∙ h
-heard_live H (Fetch k) m q a n R h = inl h
-heard_live H it m q a n R h = inl h
+heard_live H _ m q a n R h = inl h
 
 pub live_goes : (H : List Event) (n k : ℕ) → Lawful H → are_live H n ≡ true → hands_out_in k (work H n) ≡ true → goes_on H k ≡ true
 live_goes [] n k l lives hands = absurd cc

@@ -5,7 +5,7 @@ use Rattle.std.proofs.lemmas.List.{length-append}
 use Rattle.dsql_laws.specs.journal.declared.entry.Owner.{Owner}
 use Rattle.dsql_laws.specs.pool.declared.conn.Place.{Place}
 use Rattle.dsql_laws.specs.pool.declared.conn.Place.TheVariants.{Lent}
-use Rattle.dsql_laws.specs.pool.declared.moves.Move.TheVariants.{OpenStart, Lend, Back, CloseStart, Gone, Fell}
+use Rattle.dsql_laws.specs.pool.declared.moves.Move.TheVariants.{OpenStart, Lend}
 use Rattle.dsql_laws.specs.pool.Places.{conn_of, is_idle, is_opening}
 use Rattle.dsql_laws_work.proofs.Rows.{same_or_not, row_at, row_off, row_old}
 use Rattle.dsql_laws.specs.history.declared.event.Control.TheVariants.{Tick, Set}
@@ -35,10 +35,6 @@ many_there : {A : Type 0} (z : A) (f : Entry → A → A) (H : List Event) → l
 many_there z f [] = refl
 many_there z f (Pool (OpenStart c n) ∷ H) = let more = length-append (all_there z f H) (z ∷ []) in let rows = many_there z f H in omega (arith, more, rows)
 many_there z f (Pool (Lend c t o n) ∷ H) = length-set (all_there z f H) c z ∙ many_there z f H
-many_there z f (Pool (Back c) ∷ H) = many_there z f H
-many_there z f (Pool (CloseStart c why) ∷ H) = many_there z f H
-many_there z f (Pool (Gone c) ∷ H) = many_there z f H
-many_there z f (Pool (Fell c n) ∷ H) = many_there z f H
 many_there z f (Heard e ∷ H) = length-set (all_there z f H) e.conn (f e (get_or (all_there z f H) e.conn z)) ∙ many_there z f H
 many_there z f (Entered client n DbClose ∷ H) = many_there z f H
 many_there z f (Ticked now ∷ H) = let rows = many_there z f H in let same = control_opened (Tick now) (pool H) in omega (arith, rows, same)

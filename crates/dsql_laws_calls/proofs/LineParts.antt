@@ -61,9 +61,7 @@ grows_own m e L own = ap (λ x. cond (x || is_about (exchanges (line_among m L))
 -- A call that has sent nothing has an empty line.
 pub about_none : (q : DriverCall) → is_about [] q ≡ false
 about_none (calls.Next rows) = refl
-about_none (calls.CloseRows rows) = refl
-about_none (calls.CloseStmt handle) = refl
-about_none q = refl
+about_none _ = refl
 
 pub unsent_line : (m : ℕ) (L : List Entry) → has_sent m L ≡ false → line_among m L ≡ []
 unsent_line m [] h = refl

@@ -46,19 +46,11 @@ told_of_err (Some rows) label = refl
 
 -- An operation that looks at what is there has its reply as it enters.
 told_at_once : (H : List Event) (op : Op) → is_look (work_of (works H) op) ≡ true → is_some (told_at_entry H op) ≡ true
-told_at_once H (ops.Exec target text args) h = absurd cc
-told_at_once H (ops.Query label target text args) h = absurd cc
-told_at_once H (ops.One target dests text args) h = absurd cc
-told_at_once H (ops.Begin label level read_only) h = absurd cc
-told_at_once H (ops.Commit tx) h = absurd cc
-told_at_once H (ops.Rollback tx) h = absurd cc
-told_at_once H (ops.Next rows) h = absurd cc
-told_at_once H (ops.RowsClose rows) h = absurd cc
 told_at_once H (ops.Scan rows dests) h = told_of_scan (rows_for H (ops.Scan rows dests)) rows dests
 told_at_once H (ops.Err rows) h = told_of_err (rows_for H (ops.Err rows)) rows
-told_at_once H ops.Ping h = absurd cc
 told_at_once H ops.DbClose h = refl
 told_at_once H ops.Stats h = refl
+told_at_once H _ h = absurd cc
 
 -- No answer is heard for a call that looks at what is there.
 never_heard : (H : List Event) (e : Entry) (n : ℕ) → Allowed H (Heard e) → n ≢ 0 → is_look (work H n) ≡ true → n ≢ e.call_no

@@ -112,10 +112,8 @@ some_heard H (HandOut s label) m (Query input params) (Cursor cursor columns) n 
     by : (is_some (rows_of n R) ≡ true) ⊎ (n ≡ m) → (is_some (rows_of n R) ≡ true) ⊎ ((n ≡ m) × (true ≡ true))
     by (inl were) = inl were
     by (inr same) = inr (same, refl)
-some_heard H (HandOut s label) m q a n R h = inl h
 some_heard H (Fetch k) m (Next cursor) a n R h = inl (sym (some_changed (fetched a) k n R) ∙ h)
-some_heard H (Fetch k) m q a n R h = inl h
-some_heard H it m q a n R h = inl h
+some_heard H _ m q a n R h = inl h
 
 still_hands : (H : List Event) (e : Event) (n : ℕ) → hands_out (work H n) ≡ true → hands_out (work (e ∷ H) n) ≡ true
 still_hands H e n h = ap hands_out (work_stays H e n (hands_no_look (work H n) h)) ∙ h

@@ -13,7 +13,7 @@ use Rattle.std.proofs.lemmas.List.{length-map}
 use Rattle.dsql_laws.specs.pool.declared.moves.Move.TheVariants.{OpenStart, Lend, Back, CloseStart, Gone, Fell}
 use Rattle.dsql_laws.proofs.pool.Frees.{length-changed, length-gone}
 use Rattle.dsql_laws.specs.history.declared.event.Control.{Control}
-use Rattle.dsql_laws.specs.history.declared.event.Setting.TheVariants.{MaxOpen, MaxIdle, MaxLife, MaxIdleTime}
+use Rattle.dsql_laws.specs.history.declared.event.Setting.TheVariants.{MaxOpen}
 use Rattle.dsql_laws.specs.history.declared.event.Control.TheVariants.{Tick, Set}
 use Rattle.dsql_laws.specs.history.Readers.Pool.{with_control, pool, wanted_by}
 use Rattle.dsql_laws.specs.history.declared.event.Event.{Event}
@@ -102,11 +102,8 @@ one_more p c conns x h =
     omega (arith, most, more, below)
 
 same_control : (control : Control) (p : Pooled) → open_count (with_control control p) ≡ open_count p
-same_control (Tick k) p = refl
 same_control (Set MaxOpen k) p = refl
-same_control (Set MaxIdle k) p = refl
-same_control (Set MaxLife k) p = refl
-same_control (Set MaxIdleTime k) p = refl
+same_control _ p = refl
 
 pub few_open : (H : List Event) → Lawful H → open_count (pool H) ≤ most_open
 few_open [] l = omega arith

@@ -134,16 +134,13 @@ left_few H m (due ∷ later) h = omega (arith, h)
 
 -- If at most as many connections are idle as may be open, an event makes few moves due.
 next_few : (H : List Event) (e : Event) → length (pool H).idle ≤ most_open → length (owed H) ≤ most_moves → length (owed (e ∷ H)) ≤ most_moves
-next_few H (Run version can) h k = omega arith
 next_few H (Entered client n DbClose) h k = closed_few (pool H) h
-next_few H (Entered client n op) h k = omega arith
 next_few H (Heard e) h k = answered_few e.answer e.conn (pool H) (place H e.conn)
 next_few H (Pool m) h k = left_few H m (owed H) k
-next_few H (Waits n) h k = omega arith
 next_few H (Ticked now) h k = control_few (Tick now) (pool H) h
 next_few H (SetLimit s n) h k = control_few (Set s n) (pool H) h
-next_few H (Replied n reply) h k = omega arith
 next_few H Ended h k = closed_few (pool H) h
+next_few H _ h k = omega arith
 
 idle_below : (H : List Event) → Lawful H → AtRest (pool H) → length (pool H).idle ≤ most_open
 idle_below H l rest = let opened = few_open H l in let idle = few_idle (pool H) rest in omega (arith, opened, idle)

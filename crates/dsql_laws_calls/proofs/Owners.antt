@@ -14,7 +14,7 @@ use Rattle.dsql_laws.specs.wait.declared.request.Request.{Request}
 use Rattle.dsql_laws.specs.wait.Requests.{without_call}
 use Rattle.dsql_laws.specs.pool.declared.conn.Conn.{Conn}
 use Rattle.dsql_laws.specs.pool.declared.conn.Place.{Place}
-use Rattle.dsql_laws.specs.pool.declared.conn.Place.TheVariants.{Idle, Lent, Opening, Closing}
+use Rattle.dsql_laws.specs.pool.declared.conn.Place.TheVariants.{Lent, Opening, Closing}
 use Rattle.dsql_laws.specs.pool.declared.moves.CloseCause.{CloseCause}
 use Rattle.dsql_laws.specs.pool.declared.moves.CloseCause.TheVariants.{IdleFull}
 use Rattle.dsql_laws.specs.pool.declared.moves.CloseCause.TheVariants as causes
@@ -245,10 +245,8 @@ unwanted_owned : (f : Owner → Bool) (x : Conn) → is_owned f x.place ≡ true
 unwanted_owned f x h = at x.place refl h
   where
     at : (place : Place) → x.place ≡ place → is_owned f place ≡ true → is_owned f (unwanted x).place ≡ true
-    at Idle is k = rw is refl
     at (Lent t o) is k = rw is k
-    at (Opening wanted) is k = rw is refl
-    at Closing is k = rw is refl
+    at _ is k = rw is refl
 
 shut_owned : (f : Owner → Bool) (p : Pooled) → are_owned f p.conns ≡ true → are_owned f (shut p).conns ≡ true
 shut_owned f p h = all_map (λ x. is_owned f x.place) unwanted p.conns (unwanted_owned f) h
@@ -273,11 +271,8 @@ joined_asked f r rs own h =
     list_all-append (λ x. f x.owner) rs (r ∷ []) ∙ together (are_asked f rs) (are_asked f (r ∷ [])) h last
 
 same_control : (f : Owner → Bool) (control : Control) (p : Pooled) → are_owned f p.conns ≡ true → are_asked f p.waiting ≡ true → (are_owned f (with_control control p).conns ≡ true) × (are_asked f (with_control control p).waiting ≡ true)
-same_control f (Tick n) p h k = (h, k)
 same_control f (Set MaxOpen n) p h k = (h, k)
-same_control f (Set MaxIdle n) p h k = (h, k)
-same_control f (Set MaxLife n) p h k = (h, k)
-same_control f (Set MaxIdleTime n) p h k = (h, k)
+same_control f _ p h k = (h, k)
 
 owned_entered : (H : List Event) (client m : ℕ) (op : Op) → Owned H → pool (Entered client m op ∷ H) ≡ pool H → owed (Entered client m op ∷ H) ≡ [] → Owned (Entered client m op ∷ H)
 owned_entered H client m op s same none = record {

@@ -106,9 +106,7 @@ test_plain can = elim can.validator as (λ b. is_plain (test_of (record can { va
 
 run_plain : (aim : Aim) (input : Input) (params : List Param) → is_plain (Some (run_for aim input params)) ≡ true
 run_plain aims.Execute input params = refl
-run_plain aims.ReadOne input params = refl
-run_plain aims.HandOut input params = refl
-run_plain aims.Ping input params = refl
+run_plain _ input params = refl
 
 sent_plain : (can : Caps) (asked : Asked) (d : Due) → is_plain (sent_as can asked d) ≡ true
 sent_plain can asked due.Text = run_plain asked.aim (Text asked.text) asked.params

@@ -11,7 +11,7 @@ use Rattle.dsql_laws.specs.journal.Facts.{MayFollow}
 use Rattle.dsql_laws.proofs.journal.Sentences.{MayFollow-of}
 use Rattle.dsql_laws.specs.pool.declared.conn.Place.{Place}
 use Rattle.dsql_laws.specs.pool.declared.conn.Place.TheVariants.{Opening}
-use Rattle.dsql_laws.specs.pool.declared.moves.Move.TheVariants.{OpenStart, Lend, Back, CloseStart, Gone, Fell}
+use Rattle.dsql_laws.specs.pool.declared.moves.Move.TheVariants.{Lend, Fell}
 use Rattle.dsql_laws.specs.pool.Calls.{moves_opened, moves_failed}
 use Rattle.dsql_laws.specs.pool.Pooled.{place_at}
 use Rattle.dsql_laws.specs.history.declared.record.Try.{Try}
@@ -68,25 +68,18 @@ tried_now false x a before earlier is = inr is
 
 -- A refused try doesn't become lost.
 refused_before : (b : Bool) (ts : List Try) (a : DriverAnswer) (earlier : List Try) → cond b (lost ts) ts ≡ Refused a ∷ earlier → ts ≡ Refused a ∷ earlier
-refused_before true [] a earlier is = is
 refused_before true (Served ∷ ts) a earlier is = absurd cc
-refused_before true (Lost ∷ ts) a earlier is = is
-refused_before true (Refused b ∷ ts) a earlier is = is
-refused_before false ts a earlier is = is
+refused_before _ _ a earlier is = is
 
 -- A refusal that fell to a call is the failed answer of a Connect.
 pub refusal_failed : (H : List Event) (n : ℕ) (a : DriverAnswer) (earlier : List Try) → Lawful H → tries H n ≡ Refused a ∷ earlier → is_failure a ≡ true
 refusal_failed [] n a earlier l is = absurd cc
 refusal_failed (Heard e ∷ H) n a earlier l is = refusal_failed H n a earlier l.0 (refused_before ((e.call_no == n) && loses (work H n) e) (tries H n) a earlier is)
-refusal_failed (Pool (OpenStart c m) ∷ H) n a earlier l is = refusal_failed H n a earlier l.0 is
 refusal_failed (Pool (Lend c t o m) ∷ H) n a earlier l is = by (refusal_failed H n a earlier l.0) (tried_now (m == n) Served a (tries H n) earlier is)
   where
     by : (tries H n ≡ Refused a ∷ earlier → is_failure a ≡ true) → (Served ≡ Refused a) ⊎ (tries H n ≡ Refused a ∷ earlier) → is_failure a ≡ true
     by rest (inl other) = absurd cc
     by rest (inr k) = rest k
-refusal_failed (Pool (Back c) ∷ H) n a earlier l is = refusal_failed H n a earlier l.0 is
-refusal_failed (Pool (CloseStart c why) ∷ H) n a earlier l is = refusal_failed H n a earlier l.0 is
-refusal_failed (Pool (Gone c) ∷ H) n a earlier l is = refusal_failed H n a earlier l.0 is
 refusal_failed (Pool (Fell c m) ∷ H) n a earlier l is = by (refusal_failed H n a earlier l.0) (tried_now (m == n) (Refused (newest_answer H)) a (tries H n) earlier is)
   where
     by : (tries H n ≡ Refused a ∷ earlier → is_failure a ≡ true) → (Refused (newest_answer H) ≡ Refused a) ⊎ (tries H n ≡ Refused a ∷ earlier) → is_failure a ≡ true

@@ -115,10 +115,8 @@ heard_gives : (H : List Event) (it : Work) (m : ℕ) (q : DriverCall) (a : Drive
     → (is_some (rows_of n R) ≡ true) ⊎ ((is_some (given_cursor (got_of a)) ≡ true) × (is_some (step_of q) ≡ true))
 heard_gives H (HandOut s label) m (Query (Text text) params) (Cursor cursor columns) n R h = inr (refl, refl)
 heard_gives H (HandOut s label) m (Query (Handle handle) params) (Cursor cursor columns) n R h = inr (refl, refl)
-heard_gives H (HandOut s label) m q a n R h = inl h
 heard_gives H (Fetch k) m (Next cursor) a n R h = inl (sym (some_changed (fetched a) k n R) ∙ h)
-heard_gives H (Fetch k) m q a n R h = inl h
-heard_gives H it m q a n R h = inl h
+heard_gives H _ m q a n R h = inl h
 
 holds_more : (e : Entry) (L : List Entry) → holds L ≡ true → holds (e ∷ L) ≡ true
 holds_more e L h = by (step_of e.call)

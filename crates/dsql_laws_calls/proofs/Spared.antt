@@ -163,7 +163,6 @@ closed_spare p h =
 -- Connections that are opened, refused, shut or given back.
 
 opened_later : (c : ℕ) (p : Pooled) (at : Option Place) → are_sparing_later (when_opened at c p) p ≡ true
-opened_later c p (Some (Opening (Some owner))) = refl
 opened_later c p (Some (Opening None)) = by (when_unwanted p)
   where
     oldest : (rs : List Request) → are_sparing_later (lends_to_oldest c (next_tenure p c) rs) p ≡ true
@@ -174,10 +173,7 @@ opened_later c p (Some (Opening None)) = by (when_unwanted p)
     by (Closes why) = refl
     by Serves = oldest p.waiting
     by Rests = refl
-opened_later c p (Some Idle) = refl
-opened_later c p (Some (Lent t o)) = refl
-opened_later c p (Some Closing) = refl
-opened_later c p None = refl
+opened_later c p _ = refl
 
 failed_later : (c : ℕ) (p : Pooled) → are_sparing_later (moves_failed c p) p ≡ true
 failed_later c p =
@@ -348,17 +344,11 @@ opened_by (e ∷ H) c s h opens = absurd (spared_first c (owed (e ∷ H)) (pool 
 
 idle_or_opening : (at : Option Place) → is_idle at ≡ true → is_opening at ≡ true → ⊥
 idle_or_opening (Some Idle) h k = cc
-idle_or_opening (Some (Opening w)) h k = cc
-idle_or_opening (Some (Lent t o)) h k = cc
-idle_or_opening (Some Closing) h k = cc
-idle_or_opening None h k = cc
+idle_or_opening _ h k = cc
 
 pub lent_or_opening : (at : Option Place) → is_lent at ≡ true → is_opening at ≡ true → ⊥
 lent_or_opening (Some Idle) h k = cc
-lent_or_opening (Some (Opening w)) h k = cc
-lent_or_opening (Some (Lent t o)) h k = cc
-lent_or_opening (Some Closing) h k = cc
-lent_or_opening None h k = cc
+lent_or_opening _ h k = cc
 
 given_takes : (H : List Event) (c d : ℕ) (m : Move) → is_given_back H d m ≡ true → (d == c) ≡ true → is_opening (place H c) ≡ true → ⊥
 given_takes H c d m h same opens =

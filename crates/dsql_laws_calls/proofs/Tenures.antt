@@ -174,11 +174,8 @@ below_move H (Fell d k) c l a had h = by (same_or_not c d)
     by (inr apart) = below_found H c (conn_of c (pool (Pool (Fell d k) ∷ H)).conns) (gone_off d c (pool H).conns apart) had h
 
 shut_there : (at : Option Place) → is_there (option_map unwanted_place at) ≡ true → is_there at ≡ true
-shut_there None h = h
-shut_there (Some Idle) h = h
-shut_there (Some (Lent t o)) h = h
 shut_there (Some (Opening w)) h = refl
-shut_there (Some Closing) h = h
+shut_there _ h = h
 
 below_shut : (H : List Event) (c : ℕ) → Below H c → is_there (place_in (conn_of c (shut (pool H)).conns)) ≡ true → are_below (lends_of c (shut (pool H)).conns + 1) (journal H c) ≡ true
 below_shut H c had h =

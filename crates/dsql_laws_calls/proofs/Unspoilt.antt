@@ -81,11 +81,9 @@ fine_on heard opened J (Some Closing) s k = tt
 fine_on heard opened J None s k = tt
 
 fine_unwanted : (J : List Entry) (p : Option Place) → Fine false false J p → Fine false false J (option_map unwanted_place p)
-fine_unwanted J (Some (Opening wanted)) s = s
-fine_unwanted J (Some Idle) s = s
-fine_unwanted J (Some (Lent t own)) s = s
 fine_unwanted J (Some Closing) s = tt
 fine_unwanted J None s = tt
+fine_unwanted J (Some _) s = s
 
 -- A connection on which nothing was heard is fine.
 fine_empty : (p : Option Place) → Fine false false [] p

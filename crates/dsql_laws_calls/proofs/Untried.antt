@@ -19,7 +19,7 @@ use Rattle.dsql_laws.proofs.pool.Found.{found_changed}
 use Rattle.dsql_laws.proofs.pool.Frees.{passing, count-cons}
 use Rattle.dsql_laws.specs.history.declared.event.Control.TheVariants.{Tick, Set}
 use Rattle.dsql_laws.specs.history.declared.record.Try.{Try}
-use Rattle.dsql_laws.specs.history.declared.record.Try.TheVariants.{Served, Lost, Refused}
+use Rattle.dsql_laws.specs.history.declared.record.Try.TheVariants.{Served, Refused}
 use Rattle.dsql_laws.specs.history.Readers.Pool.{pool, place, request, wanted_by}
 use Rattle.dsql_laws.specs.history.Readers.Tries.{with_try, lost, has_a_try, tries, newest_answer, loses}
 use Rattle.dsql_laws.specs.Holdings.{waits_of}
@@ -172,11 +172,8 @@ other_try k n x ts not = ap (λ b. has_a_try (with_try b x ts)) not
 
 -- A call with a try left wasn't served, so no answer takes that try from it.
 heard_with_try : (b : Bool) (ts : List Try) → has_a_try ts ≡ true → has_a_try (cond b (lost ts) ts) ≡ true
-heard_with_try true [] h = h
 heard_with_try true (Served ∷ ts) h = absurd cc
-heard_with_try true (Lost ∷ ts) h = h
-heard_with_try true (Refused answer ∷ ts) h = h
-heard_with_try false ts h = h
+heard_with_try _ _ h = h
 
 pub wanting_has_try : (H : List Event) (n : ℕ) → Lawful H → n ≢ 0 → 1 ≤ wanted n (pool H) → has_a_try (tries H n) ≡ true
 wanting_has_try [] n l some now = refl

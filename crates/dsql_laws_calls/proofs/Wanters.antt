@@ -13,7 +13,7 @@ use Rattle.dsql_laws.specs.pool.Calls.{wants}
 use Rattle.dsql_laws.specs.pool.Places.{is_for}
 use Rattle.dsql_laws.specs.pool.Pooled.{Pooled}
 use Rattle.dsql_laws.specs.history.declared.record.Try.{Try}
-use Rattle.dsql_laws.specs.history.declared.record.Try.TheVariants.{Lost, Refused, Served}
+use Rattle.dsql_laws.specs.history.declared.record.Try.TheVariants.{Served}
 use Rattle.dsql_laws.specs.history.declared.reply.DbEnd.{DbEnd}
 use Rattle.dsql_laws.specs.history.Readers.Pool.{smallest, pool}
 use Rattle.dsql_laws.specs.history.Readers.Tries.{has_a_try, try_number, tries, tries_again}
@@ -116,11 +116,8 @@ closed_by_some (Some end) h = refl
 
 -- Being lent a connection settles no reply for a ping that has a try left.
 untold : (can : Caps) (it : Work) (ts : List Try) → has_a_try ts ≡ true → told_as_lent can it ts ≡ None
-untold can Ping [] left = refl
 untold can Ping (Served ∷ earlier) left = absurd cc
-untold can Ping (Lost ∷ earlier) left = refl
-untold can Ping (Refused answer ∷ earlier) left = refl
-untold can it ts left = refl
+untold can _ _ left = refl
 
 or_none : (o : Option Reply) → is_some (or_else o None) ≡ is_some o
 or_none None = refl

@@ -178,16 +178,12 @@ free_due can asked due.Text n h = absurd (run_not asked.aim h)
   where
     run_not : (aim : Aim) → is_due (sent_as (untested can) (asking asked.text asked.params aim) due.Text) (calls.CloseStmt n) ≡ true → ⊥
     run_not aims.Execute k = cc
-    run_not aims.ReadOne k = cc
-    run_not aims.HandOut k = cc
-    run_not aims.Ping k = cc
+    run_not _ k = cc
 free_due can asked (due.Handle handle) n h = absurd (run_not asked.aim h)
   where
     run_not : (aim : Aim) → is_due (sent_as (untested can) (asking asked.text asked.params aim) (due.Handle handle)) (calls.CloseStmt n) ≡ true → ⊥
     run_not aims.Execute k = cc
-    run_not aims.ReadOne k = cc
-    run_not aims.HandOut k = cc
-    run_not aims.Ping k = cc
+    run_not _ k = cc
 free_due can asked d n h = absurd cc
 
 -- If the handle is to be closed, the cursor isn't open.

@@ -89,15 +89,11 @@ cursor_run q a d fits given step = run q a fits given step
     run p b f g s = absurd cc
 
 low_open : (d : Due) (g : Got) (p : ℕ) → (p ≡ 1) ⊎ (p ≡ 3) → (nat_lt (place d) p || false) ≡ true → ends_rows (d, g) ≡ false
-low_open due.Text g p which h = refl
-low_open due.Prepare g p which h = refl
-low_open (due.Handle handle) g p which h = refl
-low_open (due.CloseStmt handle) g p which h = refl
 low_open (due.Next rows) g p (inl is) h = absurd (let k : (nat_lt 4 1 || false) ≡ true = ap (λ n. nat_lt 4 n || false) (sym is) ∙ h in cc)
 low_open (due.Next rows) g p (inr is) h = absurd (let k : (nat_lt 4 3 || false) ≡ true = ap (λ n. nat_lt 4 n || false) (sym is) ∙ h in cc)
 low_open (due.CloseRows rows) g p (inl is) h = absurd (let k : (nat_lt 5 1 || false) ≡ true = ap (λ n. nat_lt 5 n || false) (sym is) ∙ h in cc)
 low_open (due.CloseRows rows) g p (inr is) h = absurd (let k : (nat_lt 5 3 || false) ≡ true = ap (λ n. nat_lt 5 n || false) (sym is) ∙ h in cc)
-low_open d g p which h = refl
+low_open _ g p which h = refl
 
 lows_open : (p : ℕ) (made : List Exchange) → (p ≡ 1) ⊎ (p ≡ 3) → list_all (λ y. nat_lt (place y.0) p || false) made ≡ true → rows_are_over made ≡ false
 lows_open p [] which h = refl

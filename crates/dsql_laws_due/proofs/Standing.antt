@@ -46,19 +46,14 @@ StandsIn H c = Stands c (lends H c) (uses H c) (was_heard c H) (was_opened c H) 
 -- A connection stands as before if the last event wasn't an answer on it, or if it is neither being opened nor
 -- being closed.
 stands_on : (c l u : ℕ) (heard opened : Bool) (J : List Entry) (p : Option Place) → Stands c l u heard opened J p → ((is_opening p || is_closing p) ≡ true → heard ≡ false) → Stands c l u false false J p
-stands_on c l u heard opened J None s h = s
 stands_on c l u heard opened J (Some (Opening wanted)) s h = record { unlent = s.unlent; unused = s.unused; fresh = λ k. s.fresh (h refl); done = λ k. absurd cc }
-stands_on c l u heard opened J (Some Idle) s h = s
-stands_on c l u heard opened J (Some (Lent t owner)) s h = s
 stands_on c l u heard opened J (Some Closing) s h = λ k. s (h refl)
+stands_on c l u heard opened J _ s h = s
 
 -- A connection that no call wants any longer stands as before.
 stands_unwanted : (c l u : ℕ) (heard opened : Bool) (J : List Entry) (p : Option Place) → Stands c l u heard opened J p → Stands c l u heard opened J (option_map unwanted_place p)
-stands_unwanted c l u heard opened J None s = s
 stands_unwanted c l u heard opened J (Some (Opening wanted)) s = s
-stands_unwanted c l u heard opened J (Some Idle) s = s
-stands_unwanted c l u heard opened J (Some (Lent t owner)) s = s
-stands_unwanted c l u heard opened J (Some Closing) s = s
+stands_unwanted c l u heard opened J _ s = s
 
 stands_same : (d l m u v : ℕ) (h o : Bool) (J K : List Entry) (p q : Option Place) → m ≡ l → v ≡ u → K ≡ J → q ≡ p → Stands d l u h o J p → Stands d m v h o K q
 stands_same d l m u v h o J K p q a b c e s = rw (a, b, c, e) s

@@ -209,11 +209,9 @@ end_is : (end : TxEnd) (q : DriverCall) → is_due (Some (ended_by_call end)) q 
 end_is tx_ends.Commit calls.Commit h = refl
 end_is tx_ends.Commit q h = absurd cc
 end_is tx_ends.Rollback calls.Rollback h = refl
-end_is tx_ends.Rollback q h = absurd cc
 end_is tx_ends.EndOfRun calls.Rollback h = refl
-end_is tx_ends.EndOfRun q h = absurd cc
 end_is end calls.Rollback h = refl
-end_is end q h = absurd cc
+end_is _ q h = absurd cc
 
 test_is : (can : Caps) (q : DriverCall) → is_due (test_of can) q ≡ true → q ≡ calls.Valid
 test_is can q h = by can.validator h

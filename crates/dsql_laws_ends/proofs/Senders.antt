@@ -88,13 +88,10 @@ due_of : (H : List Event) (n : ℕ) → is_unfinished H n ≡ true → due_for H
 due_of H n u = ap (λ (b : Bool). cond b (due_in H n (work H n)) None) u
 
 on_database : (it : Work) → asks it ≡ true → scope it ≡ Db
-on_database (Execute Db) own = refl
 on_database (Execute (Tx k)) own = absurd cc
-on_database (ReadOne Db dests) own = refl
 on_database (ReadOne (Tx k) dests) own = absurd cc
-on_database (HandOut Db label) own = refl
 on_database (HandOut (Tx k) label) own = absurd cc
-on_database it own = refl
+on_database _ own = refl
 
 closing_due : (H : List Event) (m n : ℕ) (it : Work) → WorksOn it n → asks (work H n) ≡ true → ender H n ≡ m → due_in H m it ≡ line_of H n wishes.Close
 closing_due H m n it works own ended = by works

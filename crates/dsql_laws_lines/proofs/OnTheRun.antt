@@ -7,7 +7,7 @@ use Rattle.dsql_laws_calls.specs.history.declared.event.Event.TheVariants.{Enter
 use Rattle.dsql_laws_calls.specs.history.declared.event.Op.{Op}
 use Rattle.dsql_laws_calls.specs.history.declared.event.Control.{Control}
 use Rattle.dsql_laws_calls.specs.history.declared.event.Setting.{Setting}
-use Rattle.dsql_laws_calls.specs.history.declared.event.Setting.TheVariants.{MaxOpen, MaxIdle, MaxLife, MaxIdleTime}
+use Rattle.dsql_laws_calls.specs.history.declared.event.Setting.TheVariants.{MaxOpen}
 use Rattle.dsql_laws_calls.specs.history.declared.event.Control.TheVariants.{Tick, Set}
 use Rattle.dsql_laws_calls.specs.history.Readers.Controls.{told, taken, told_after}
 use Rattle.dsql_laws_calls.specs.history.Readers.Course.{has_ended}
@@ -121,9 +121,7 @@ runs_in_steps m line events now rest whole on own h turn =
 
 setting_itself : (setting : Setting) → same_setting setting setting ≡ true
 setting_itself MaxOpen = refl
-setting_itself MaxIdle = refl
-setting_itself MaxLife = refl
-setting_itself MaxIdleTime = refl
+setting_itself _ = refl
 
 told_itself : (control : Control) → is_told control (told control) ≡ true
 told_itself (Tick now) = same_itself now

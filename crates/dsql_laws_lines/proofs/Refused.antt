@@ -14,7 +14,7 @@ use Rattle.dsql_laws_calls.specs.pool.declared.moves.Move.TheVariants.{OpenStart
 use Rattle.dsql_laws_calls.specs.pool.Calls.{wants}
 use Rattle.dsql_laws_calls.specs.pool.Places.{is_for}
 use Rattle.dsql_laws_calls.specs.history.declared.record.Try.{Try}
-use Rattle.dsql_laws_calls.specs.history.declared.record.Try.TheVariants.{Served, Lost, Refused}
+use Rattle.dsql_laws_calls.specs.history.declared.record.Try.TheVariants.{Served, Refused}
 use Rattle.dsql_laws_calls.specs.history.Readers.Pool.{is_home, smallest, place, pool}
 use Rattle.dsql_laws_calls.specs.history.Readers.Tries.{asks_again, has_a_try, lost, with_try, loses, newest_answer, tries}
 use Rattle.dsql_laws_calls.proofs.laws.Places.{neither}
@@ -116,11 +116,8 @@ falls_so H c n l some =
     by d t owner none (inr lends) same = let clash = lends.1 in cc
 
 refused_still : (b : Bool) (tried : List Try) → was_refused (cond b (lost tried) tried) ≡ true → was_refused tried ≡ true
-refused_still true [] h = h
 refused_still true (Served ∷ earlier) h = absurd cc
-refused_still true (Lost ∷ earlier) h = h
-refused_still true (Refused answer ∷ earlier) h = h
-refused_still false tried h = h
+refused_still _ _ h = h
 
 pub refusal : (H : List Event) (n : ℕ) → Lawful H → n ≢ 0 → was_refused (tries H n) ≡ true → Refusal H n
 refusal [] n l some now = absurd cc

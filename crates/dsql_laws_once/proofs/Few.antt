@@ -4,7 +4,7 @@ use Rattle.std.proofs.Common.{◌≡◌, ◌≢◌, ℕ, suc, ◌+◌, ◌≤◌
 use Rattle.std.specs.List.{filter}
 use Rattle.dsql_laws_calls.specs.journal.declared.entry.Entry.{Entry}
 use Rattle.dsql_laws_calls.specs.history.declared.event.Event.{Event}
-use Rattle.dsql_laws_calls.specs.history.declared.event.Event.TheVariants.{Run, Entered, Heard, Pool, Waits, Ticked, SetLimit, Replied, Ended}
+use Rattle.dsql_laws_calls.specs.history.declared.event.Event.TheVariants.{Entered, Heard}
 use Rattle.dsql_laws_calls.specs.history.Readers.Works.{work}
 use Rattle.dsql_laws_calls.specs.history.Legal.{Lawful}
 use Rattle.dsql_laws_calls.proofs.Stays.{work_stays}
@@ -54,10 +54,4 @@ all_count (Entered client m op ∷ H) n l some one = by (all_count H n l.0 some)
     by earlier (inr more) =
         let busy = states_busy (work H n) (carried_states H n l.0 some more) in
         earlier (ap reads_one (sym (work_stays H (Entered client m op) n busy)) ∙ one)
-all_count (Run version can ∷ H) n l some one = all_count H n l.0 some one
-all_count (Pool m ∷ H) n l some one = all_count H n l.0 some one
-all_count (Waits m ∷ H) n l some one = all_count H n l.0 some one
-all_count (Ticked now ∷ H) n l some one = all_count H n l.0 some one
-all_count (SetLimit s k ∷ H) n l some one = all_count H n l.0 some one
-all_count (Replied m reply ∷ H) n l some one = all_count H n l.0 some one
-all_count (Ended ∷ H) n l some one = all_count H n l.0 some one
+all_count (_ ∷ H) n l some one = all_count H n l.0 some one

@@ -78,9 +78,7 @@ tidy_ends aim (due.CloseRows rows) t = refl
 tidy_ends aim (due.CloseStmt handle) t = refl
 tidy_ends aim due.Over t = refl
 tidy_ends aims.Execute d t = absurd cc
-tidy_ends aims.ReadOne d t = absurd cc
-tidy_ends aims.HandOut d t = absurd cc
-tidy_ends aims.Ping d t = absurd cc
+tidy_ends _ d t = absurd cc
 
 next_sent : (rows : ℕ) (q : DriverCall) → is_due (Some (calls.Next rows)) q ≡ true → tidies q ≡ true
 next_sent rows (calls.Next other) h = refl

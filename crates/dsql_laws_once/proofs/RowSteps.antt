@@ -18,7 +18,7 @@ use Rattle.dsql_laws_calls.specs.works.declared.work.Aim.{Aim}
 use Rattle.dsql_laws_calls.specs.works.declared.work.Aim.TheVariants as aims
 use Rattle.dsql_laws_calls.specs.works.Line.{body_after, line_after, is_due}
 use Rattle.dsql_laws_calls.specs.works.Exchanges.{exchanges, step_of, with_exchange}
-use Rattle.dsql_laws_calls.proofs.laws_work.CallLines.{Step, Start, WasReset, WasSkipped, WasPrepared, HasRows, HasRead, WasRun, WasDone, step, step_after, read_after, goes, is_before_end, left_of}
+use Rattle.dsql_laws_calls.proofs.laws_work.CallLines.{Step, HasRows, HasRead, WasRun, WasDone, step, step_after, read_after, goes, is_before_end, left_of}
 use Rattle.dsql_laws_calls.proofs.laws_work.MadeLines.{MadeAt, MadeRows, asking}
 use Rattle.dsql_laws_calls.proofs.laws_work.HandedLines.{SentAt, opens_rows}
 use Rattle.dsql_laws_calls.proofs.laws_work.Lines.{body_due}
@@ -66,17 +66,11 @@ left_after_row (Some handle) = refl
 
 pub stays_read : (s : Step) (q : DriverCall) (a : DriverAnswer) → goes s q ≡ true → is_before_row s ≡ false → is_before_row (step_after s q a) ≡ false
 stays_read s q Bad g h = refl
-stays_read (HasRows own rows) q a g h = absurd cc
 stays_read (HasRead own rows false) (Next r) a g h = refl
-stays_read (HasRead own rows true) (Next r) a g h = absurd cc
 stays_read (HasRead own rows over) (CloseRows r) a g h = left_after_row own
 stays_read (WasRun handle) (CloseStmt r) a g h = refl
 stays_read WasDone Valid a g h = refl
-stays_read Start q a g h = absurd cc
-stays_read WasReset q a g h = absurd cc
-stays_read WasSkipped q a g h = absurd cc
-stays_read (WasPrepared handle) q a g h = absurd cc
-stays_read s q a g h = absurd cc
+stays_read _ _ a g h = absurd cc
 
 read_past : (s : Step) (over : Bool) → is_before_row (read_after s over) ≡ false
 read_past (HasRows own rows) over = refl

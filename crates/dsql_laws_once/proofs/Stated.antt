@@ -212,15 +212,12 @@ statement_states H e l some statement = by (work H e.call_no) refl
     other w is a s = never (is_statement e.call) statement (other_quiet H e l some (record { asks_none = ap asks is ∙ a; outside = ap scope is ∙ s }))
 
     by : (w : Work) → work H e.call_no ≡ w → states (work H e.call_no) ≡ true
-    by (Execute it) is = ap states is
-    by (ReadOne it dests) is = ap states is
-    by (HandOut it label) is = ap states is
-    by Ping is = ap states is
     by (Begin label level read_only) is = absurd (never (is_statement e.call) statement (begin_quiet H e l (ap begins is)))
     by (End k) is = absurd (other (End k) is refl refl)
     by (Fetch k) is = absurd (other (Fetch k) is refl refl)
     by (Close k) is = absurd (other (Close k) is refl refl)
     by Look is = absurd (other Look is refl refl)
+    by _ is = ap states is
 
 pub statement_of : (e : Entry) → may_be_carried_out e ≡ true → is_statement e.call ≡ true
 statement_of e carried = let h = both (is_statement e.call) (not (is_bad e.answer || is_skip e.answer)) carried in h.0

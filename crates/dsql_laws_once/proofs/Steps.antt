@@ -20,7 +20,7 @@ use Rattle.dsql_laws_calls.specs.history.declared.work.Work.TheVariants.{ReadOne
 use Rattle.dsql_laws_calls.specs.history.Readers.Decisions.{decision}
 use Rattle.dsql_laws_calls.specs.history.Readers.Tries.{is_tried}
 use Rattle.dsql_laws_calls.specs.history.Readers.Works.{aim_of, asks}
-use Rattle.dsql_laws_calls.proofs.laws_work.CallLines.{Step, Start, WasReset, WasSkipped, WasPrepared, HasRows, HasRead, WasRun, WasDone, WasTested, WasDropped, IsOther, step_after, goes, is_before_end, left_of}
+use Rattle.dsql_laws_calls.proofs.laws_work.CallLines.{Step, Start, WasReset, WasSkipped, WasPrepared, HasRows, HasRead, WasRun, WasDone, step_after, goes, is_before_end, left_of}
 use Rattle.dsql_laws_calls.proofs.laws_work.MadeLines.{queries_it, asking}
 use Rattle.dsql_laws_calls.proofs.laws_work.HandedLines.{SentAt, opens_rows}
 use Rattle.dsql_laws_calls.proofs.Plain.{begins}
@@ -68,15 +68,10 @@ stays_ended s q Bad g h = refl
 stays_ended (HasRows own rows) (Next r) a g h = refl
 stays_ended (HasRows own rows) (CloseRows r) a g h = left_after_end own
 stays_ended (HasRead own rows false) (Next r) a g h = refl
-stays_ended (HasRead own rows true) (Next r) a g h = absurd cc
 stays_ended (HasRead own rows over) (CloseRows r) a g h = left_after_end own
 stays_ended (WasRun handle) (CloseStmt r) a g h = refl
 stays_ended WasDone Valid a g h = refl
-stays_ended Start q a g h = absurd cc
-stays_ended WasReset q a g h = absurd cc
-stays_ended WasSkipped q a g h = absurd cc
-stays_ended (WasPrepared handle) q a g h = absurd cc
-stays_ended s q a g h = absurd cc
+stays_ended _ _ a g h = absurd cc
 
 -- What was carried out settles the reply, except the cursor of a call that reads one row.
 
@@ -134,23 +129,13 @@ not_late : (q : DriverCall) → is_late q ≡ false → is_late q ≡ true → �
 not_late q early late = let clash : true ≡ false = sym late ∙ early in cc
 
 late_only : (s : Step) (q : DriverCall) → goes s q ≡ true → is_before_end s ≡ false → is_late q ≡ true
-late_only Start q g h = absurd cc
-late_only WasReset q g h = absurd cc
-late_only WasSkipped q g h = absurd cc
-late_only (WasPrepared handle) q g h = absurd cc
 late_only (HasRows own rows) (Next r) g h = refl
 late_only (HasRows own rows) (CloseRows r) g h = refl
-late_only (HasRows own rows) _ g h = absurd cc
 late_only (HasRead own rows over) (Next r) g h = refl
 late_only (HasRead own rows over) (CloseRows r) g h = refl
-late_only (HasRead own rows over) _ g h = absurd cc
 late_only (WasRun handle) (CloseStmt r) g h = refl
-late_only (WasRun handle) _ g h = absurd cc
 late_only WasDone Valid g h = refl
-late_only WasDone _ g h = absurd cc
-late_only WasTested q g h = absurd cc
-late_only WasDropped q g h = absurd cc
-late_only IsOther q g h = absurd cc
+late_only _ _ g h = absurd cc
 
 -- What is sent later leaves the reply settled, except a fetch of a call that reads one row.
 

@@ -3,7 +3,7 @@
 use Rattle.std.proofs.Common.{◌≡◌, ℕ, Bool, true, false, cond, List, [], ◌∷◌, Option, Some, None, is_some, refl, sym, ap, ◌∙◌, ◌&&◌}
 use Rattle.std.specs.Prelude.{Result, Ok, Err}
 use Rattle.std.specs.Option.{option_map}
-use Rattle.dsql_laws_calls.specs.pool.declared.moves.Move.TheVariants.{OpenStart, Lend, Back, CloseStart, Gone, Fell}
+use Rattle.dsql_laws_calls.specs.pool.declared.moves.Move.TheVariants.{OpenStart}
 use Rattle.dsql_laws_calls.specs.pool.declared.request.Asked.{Asked}
 use Rattle.dsql_laws_calls.specs.pool.declared.request.Asked.TheVariants as asked
 use Rattle.dsql_laws_calls.specs.pool.declared.request.AskFault.{AskFault}
@@ -11,7 +11,7 @@ use Rattle.dsql_laws_calls.specs.pool.declared.request.AskFault.TheVariants.{Too
 use Rattle.dsql_laws_calls.specs.pool.Decisions.{takes_idle, are_too_many, may_open, last}
 use Rattle.dsql_laws_calls.specs.pool.Pooled.{Pooled, next_number, next_tenure}
 use Rattle.dsql_laws_calls.specs.history.declared.event.Control.{Control}
-use Rattle.dsql_laws_calls.specs.history.declared.event.Setting.TheVariants.{MaxOpen, MaxIdle, MaxLife, MaxIdleTime}
+use Rattle.dsql_laws_calls.specs.history.declared.event.Setting.TheVariants.{MaxOpen}
 use Rattle.dsql_laws_calls.specs.history.declared.event.Control.TheVariants.{Tick, Set}
 use Rattle.dsql_laws_calls.specs.history.declared.record.Try.{Try}
 use Rattle.dsql_laws_calls.specs.history.declared.reply.DbEnd.{DbEnd}
@@ -47,21 +47,13 @@ ended_by_now None end = refl
 ended_by_now (Some earlier) end = refl
 
 control_closed : (control : Control) (p : Pooled) → (with_control control p).closed ≡ p.closed
-control_closed (Tick k) p = refl
 control_closed (Set MaxOpen k) p = refl
-control_closed (Set MaxIdle k) p = refl
-control_closed (Set MaxLife k) p = refl
-control_closed (Set MaxIdleTime k) p = refl
+control_closed _ p = refl
 
 closed_end : (H : List Event) → (pool H).closed ≡ true → is_some (db_end H) ≡ true
 closed_end [] h = absurd cc
 closed_end (Entered client m DbClose ∷ H) h = ended_by_now (db_end H) ends.Close
 closed_end (Pool (OpenStart c k) ∷ H) h = closed_end H h
-closed_end (Pool (Lend c t o k) ∷ H) h = closed_end H h
-closed_end (Pool (Back c) ∷ H) h = closed_end H h
-closed_end (Pool (CloseStart c why) ∷ H) h = closed_end H h
-closed_end (Pool (Gone c) ∷ H) h = closed_end H h
-closed_end (Pool (Fell c k) ∷ H) h = closed_end H h
 closed_end (Ticked now ∷ H) h = closed_end H (sym (control_closed (Tick now) (pool H)) ∙ h)
 closed_end (SetLimit s k ∷ H) h = closed_end H (sym (control_closed (Set s k) (pool H)) ∙ h)
 closed_end (Ended ∷ H) h = ended_by_now (db_end H) ends.EndOfRun

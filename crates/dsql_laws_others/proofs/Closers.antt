@@ -166,14 +166,12 @@ fetches H (HandOut s label) m (Query input params) (Cursor cursor columns) j R l
             → live (cond b (Some x.1) (rows_of j (S ++ (m, born (is_late H s) (fresh cursor columns)) ∷ []))) ≡ true
         by true k rest = k
         by false k rest = rest k
-fetches H (HandOut s label) m q a j R lives dead = absurd (true_false (live (rows_of j R)) lives dead)
 fetches H (Fetch i) m (Next cursor) a j R lives dead = by (same_or_not j i)
   where
     by : (j ≡ i) ⊎ (j ≢ i) → Fetch i ≡ Fetch j
     by (inl same) = ap Fetch (sym same)
     by (inr apart) = let l = rows_changes in absurd (true_false (live (rows_of j R)) lives (sym (ap live (l.others (fetched a) i j R apart)) ∙ dead))
-fetches H (Fetch i) m q a j R lives dead = absurd (true_false (live (rows_of j R)) lives dead)
-fetches H it m q a j R lives dead = absurd (true_false (live (rows_of j R)) lives dead)
+fetches H _ m q a j R lives dead = absurd (true_false (live (rows_of j R)) lives dead)
 
 fetching_now : (H : List Event) (e : Entry) (j k : ℕ) → Lawful (Heard e ∷ H) → e.call_no ≢ 0 → goes_on H k ≡ true → scope (work H j) ≡ Tx k → are_live H j ≡ true → are_live (Heard e ∷ H) j ≡ false → Closer (Heard e ∷ H) j e.call_no k
 fetching_now H e j k l some going inner lives dead =

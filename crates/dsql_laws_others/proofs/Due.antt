@@ -15,7 +15,7 @@ use Rattle.dsql_laws_calls.proofs.laws.Tests.{both, same_number, same_itself}
 use Rattle.dsql_laws_calls.specs.history.declared.event.Event.{Event}
 use Rattle.dsql_laws_calls.specs.history.declared.work.Scope.TheVariants.{Db, Tx}
 use Rattle.dsql_laws_calls.specs.history.declared.work.Work.{Work}
-use Rattle.dsql_laws_calls.specs.history.declared.work.Work.TheVariants.{Execute, ReadOne, HandOut, Begin, End, Ping, Fetch, Close, Look}
+use Rattle.dsql_laws_calls.specs.history.declared.work.Work.TheVariants.{Execute, ReadOne, HandOut, End, Fetch, Close, Look}
 use Rattle.dsql_laws_calls.specs.history.Readers.Calls.{decided, site, has_begun_to_send}
 use Rattle.dsql_laws_calls.specs.history.Readers.Course.{caps}
 use Rattle.dsql_laws_calls.specs.history.Readers.Journals.{journal, heard_in}
@@ -212,11 +212,6 @@ due_keeps H m c t own l some at uses due = unfinished (is_unfinished H m) refl d
     ends k is false x = absurd cc
 
     by : is_unfinished H m ≡ true → (w : Work) → work H m ≡ w → is_some (due_in H m w) ≡ true → is_used H (number_of own) ≡ true
-    by u (Execute Db) is x = asking u (ap asks is) (ap (λ w. is_some (due_in H m w)) is ∙ x)
-    by u (ReadOne Db dests) is x = asking u (ap asks is) (ap (λ w. is_some (due_in H m w)) is ∙ x)
-    by u (HandOut Db label) is x = asking u (ap asks is) (ap (λ w. is_some (due_in H m w)) is ∙ x)
-    by u (Begin label level read_only) is x = asking u (ap asks is) (ap (λ w. is_some (due_in H m w)) is ∙ x)
-    by u Ping is x = asking u (ap asks is) (ap (λ w. is_some (due_in H m w)) is ∙ x)
     by u (Execute (Tx k)) is x = inner k u (ap scope is) x
     by u (ReadOne (Tx k) dests) is x = inner k u (ap scope is) x
     by u (HandOut (Tx k) label) is x = inner k u (ap scope is) x
@@ -224,6 +219,7 @@ due_keeps H m c t own l some at uses due = unfinished (is_unfinished H m) refl d
     by u (Close j) is x = rows_keep H m j c t own l some at (inr is) uses x
     by u (End k) is x = ends k is (tx_ender H k == m) x
     by u Look is x = absurd cc
+    by u _ is x = asking u (ap asks is) (ap (λ w. is_some (due_in H m w)) is ∙ x)
 
     unfinished : (b : Bool) → is_unfinished H m ≡ b → is_some (cond b (due_in H m (work H m)) None) ≡ true → is_used H (number_of own) ≡ true
     unfinished true u x = by u (work H m) refl x

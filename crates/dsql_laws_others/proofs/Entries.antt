@@ -37,7 +37,7 @@ use Rattle.dsql_laws_calls.specs.history.declared.reply.Reply.TheVariants.{DbClo
 use Rattle.dsql_laws_calls.specs.history.declared.work.Scope.{Scope}
 use Rattle.dsql_laws_calls.specs.history.declared.work.Scope.TheVariants.{Db, Tx}
 use Rattle.dsql_laws_calls.specs.history.declared.work.Work.{Work}
-use Rattle.dsql_laws_calls.specs.history.declared.work.Work.TheVariants.{Execute, ReadOne, HandOut, Begin, End, Ping, Fetch, Close, Look}
+use Rattle.dsql_laws_calls.specs.history.declared.work.Work.TheVariants.{Execute, ReadOne, HandOut, Begin, Ping, Fetch, Close, Look}
 use Rattle.dsql_laws_calls.specs.history.Readers.Course.{caps, db_end}
 use Rattle.dsql_laws_calls.specs.history.Readers.Calls.{call_record, decided, has_begun_to_send, done_with, told_by_tries, told_in, told_of_work, told_by_others, last_told, asks_nothing, rests, rests_with}
 use Rattle.dsql_laws_calls.specs.history.Readers.Journals.{journal}
@@ -266,14 +266,12 @@ inside_told H client n op m it (Tx j) l k apart =
 
 work_alike : (H : List Event) (client n : ℕ) (op : Op) (m : ℕ) (it : Work) → Lawful (Entered client n op ∷ H) → Leaves H (Entered client n op ∷ H) → m ≢ n → told_of_work (Entered client n op ∷ H) m it ≡ told_of_work H m it
 work_alike H client n op m (Fetch k) l same apart = ap (λ R. cond (over (rows_of k R)) (Some (Truth false)) None) same.rows
-work_alike H client n op m (Close k) l same apart = refl
-work_alike H client n op m (End k) l same apart = refl
-work_alike H client n op m Look l same apart = refl
 work_alike H client n op m (Execute s) l same apart = inside_told H client n op m (Execute s) s l same apart
 work_alike H client n op m (ReadOne s dests) l same apart = inside_told H client n op m (ReadOne s dests) s l same apart
 work_alike H client n op m (HandOut s label) l same apart = inside_told H client n op m (HandOut s label) s l same apart
 work_alike H client n op m (Begin label level read_only) l same apart = inside_told H client n op m (Begin label level read_only) Db l same apart
 work_alike H client n op m Ping l same apart = inside_told H client n op m Ping Db l same apart
+work_alike H client n op m _ l same apart = refl
 
 settled_entered : (H : List Event) (client n : ℕ) (op : Op) (m : ℕ) → Lawful (Entered client n op ∷ H) → Leaves H (Entered client n op ∷ H) → m ≢ n → is_settled_for (Entered client n op ∷ H) m ≡ is_settled_for H m
 settled_entered H client n op m l k apart =

@@ -36,10 +36,10 @@ use Rattle.dsql_laws_calls.proofs.laws.Tests.{both, same_number, same_itself}
 use Rattle.dsql_laws_calls.proofs.Cases.{true_false}
 use Rattle.dsql_laws_calls.proofs.laws_work.Rows.{same_or_not}
 use Rattle.dsql_laws_calls.specs.history.declared.event.Event.{Event}
-use Rattle.dsql_laws_calls.specs.history.declared.event.Event.TheVariants.{Run, Entered, Heard, Pool, Waits, Ticked, SetLimit, Replied, Ended}
+use Rattle.dsql_laws_calls.specs.history.declared.event.Event.TheVariants.{Entered, Heard, Pool, Ended}
 use Rattle.dsql_laws_calls.specs.history.declared.work.Scope.TheVariants.{Db, Tx}
 use Rattle.dsql_laws_calls.specs.history.declared.work.Work.{Work}
-use Rattle.dsql_laws_calls.specs.history.declared.work.Work.TheVariants.{Execute, ReadOne, HandOut, Begin, End, Ping, Fetch, Close, Look}
+use Rattle.dsql_laws_calls.specs.history.declared.work.Work.TheVariants.{Execute, ReadOne, HandOut, Begin, End, Fetch, Close, Look}
 use Rattle.dsql_laws_calls.specs.history.Readers.Calls.{decided, has_begun_to_send}
 use Rattle.dsql_laws_calls.specs.history.Readers.Course.{caps}
 use Rattle.dsql_laws_calls.specs.history.Readers.Journals.{heard_in}
@@ -259,11 +259,6 @@ due_fetches H e own holds x d same comes = whose (e.call_no == 0) refl (ap (λ o
         unbegun H e.conn e.tenure own x (ap (is_begun H) number ∙ over_begun H k (ending_over H k sends))
 
     of_call : (some : (e.call_no == 0) ≡ false) → (w : Work) → work H e.call_no ≡ w → is_due (due_in H e.call_no w) e.call ≡ true → Fetches H e (number_of own)
-    of_call some (Execute Db) is h = absurd (itself some (ap asks is) h)
-    of_call some (ReadOne Db dests) is h = absurd (itself some (ap asks is) h)
-    of_call some (HandOut Db label) is h = absurd (itself some (ap asks is) h)
-    of_call some (Begin label level read_only) is h = absurd (itself some (ap asks is) h)
-    of_call some Ping is h = absurd (itself some (ap asks is) h)
     of_call some (Execute (Tx k)) is h = absurd (inner k some (ap scope is) wishes.Nothing (inside_line (sends_in H e.call_no k) (line_of H e.call_no wishes.Nothing) h))
     of_call some (ReadOne (Tx k) dests) is h = absurd (inner k some (ap scope is) wishes.Nothing (inside_line (sends_in H e.call_no k) (line_of H e.call_no wishes.Nothing) h))
     of_call some (HandOut (Tx k) label) is h = absurd (inner k some (ap scope is) wishes.Nothing (inside_line (sends_in H e.call_no k) (line_of H e.call_no wishes.Nothing) h))
@@ -271,6 +266,7 @@ due_fetches H e own holds x d same comes = whose (e.call_no == 0) refl (ap (λ o
     of_call some (Close j) is h = rows j some (inr is) h
     of_call some (End k) is h = absurd (ends k some is (tx_ender H k == e.call_no) h)
     of_call some Look is h = absurd (not_due e.call h)
+    of_call some _ is h = absurd (itself some (ap asks is) h)
 
     whose : (b : Bool) → (e.call_no == 0) ≡ b → is_due (due_from H e.call_no (number_of own)) e.call ≡ true → Fetches H e (number_of own)
     whose true layer h = absurd (tidies (ap (λ b. is_due (cond b (tidying H (number_of own)) (due_for H e.call_no)) e.call) (sym layer) ∙ h))
@@ -411,12 +407,7 @@ came_before H x e own l comes on may at call lives =
     ]
     was (Entered client n op) off m before h = revives_none H (Entered client n op) (number_of own) refl h
     was Ended off m before h = revives_none H Ended (number_of own) refl h
-    was (Run version can) off m before h = h
-    was (Pool move) off m before h = h
-    was (Waits k) off m before h = h
-    was (Ticked now) off m before h = h
-    was (SetLimit setting k) off m before h = h
-    was (Replied k reply) off m before h = h
+    was _ off m before h = h
 
 comes_next : (H : List Event) (x : Event) → Lawful (x ∷ H) → Holds (x ∷ H) → Comes H → Comes (x ∷ H)
 comes_next H x l holds comes e own may at call lives = by (or_cases (is_due_at (x ∷ H) (place (x ∷ H) e.conn) e) (not (parts x e) && may_come H e) may)

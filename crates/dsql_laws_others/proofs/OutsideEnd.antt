@@ -20,7 +20,7 @@ use Rattle.dsql_laws_calls.specs.history.declared.event.Op.TheVariants as ops
 use Rattle.dsql_laws_calls.specs.history.declared.work.Scope.{Scope}
 use Rattle.dsql_laws_calls.specs.history.declared.work.Scope.TheVariants.{Db, Tx}
 use Rattle.dsql_laws_calls.specs.history.declared.work.Work.{Work}
-use Rattle.dsql_laws_calls.specs.history.declared.work.Work.TheVariants.{Execute, ReadOne, HandOut, Begin, End, Ping, Fetch, Close, Look}
+use Rattle.dsql_laws_calls.specs.history.declared.work.Work.TheVariants.{Execute, ReadOne, HandOut, End, Fetch, Close, Look}
 use Rattle.dsql_laws_calls.specs.history.Readers.Calls.{decided, has_begun_to_send}
 use Rattle.dsql_laws_calls.specs.history.Readers.Transactions.{ends_as, transactions, tx_by, end_of, is_begun, is_over, goes_on, tx_ender}
 use Rattle.dsql_laws_calls.specs.history.Readers.Unfinished.{is_unfinished}
@@ -192,11 +192,6 @@ due_outside H client n op m o =
     line = kept_line H client n op m wishes.Nothing (entry H client n op m o) o.apart
 
     by : m ≢ 0 → (w : Work) → work H m ≡ w → due_in (enters H client n op) m w ≡ due_in H m w
-    by some (Execute Db) is = line
-    by some (ReadOne Db dests) is = line
-    by some (HandOut Db label) is = line
-    by some (Begin label level read_only) is = line
-    by some Ping is = line
     by some (Execute (Tx k)) is = inner_same H client n op m k o (rw is refl)
     by some (ReadOne (Tx k) dests) is = inner_same H client n op m k o (rw is refl)
     by some (HandOut (Tx k) label) is = inner_same H client n op m k o (rw is refl)
@@ -204,6 +199,7 @@ due_outside H client n op m o =
     by some (Fetch j) is = rows_same H client n op m j o some (inl is)
     by some (Close j) is = rows_same H client n op m j o some (inr is)
     by some Look is = refl
+    by some _ is = line
 
     of : (b : Bool) → is_unfinished H m ≡ b → cond b (due_in (enters H client n op) m (work H m)) None ≡ cond b (due_in H m (work H m)) None
     of false u = refl

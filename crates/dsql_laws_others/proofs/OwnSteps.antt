@@ -1,6 +1,6 @@
 -- A refused connection falls to a call that is in no step of its own, because the answer that refused it was to
 -- the layer.
-use Rattle.std.proofs.Common.{◌≡◌, ◌≢◌, ℕ, ◌==◌, Bool, true, false, not, ◌&&◌, List, [], ◌∷◌, Option, Some, refl, sym, ap, ◌∙◌}
+use Rattle.std.proofs.Common.{◌≡◌, ◌≢◌, ℕ, ◌==◌, Bool, true, false, not, ◌&&◌, List, ◌∷◌, Option, Some, refl, sym, ap, ◌∙◌}
 use Rattle.dsql_laws_calls.specs.driver.Kinds.{is_connect, is_shut}
 use Rattle.dsql_laws_calls.specs.journal.declared.entry.Entry.{Entry}
 use Rattle.dsql_laws_calls.specs.journal.Kinds.{is_house}
@@ -14,7 +14,7 @@ use Rattle.dsql_laws_calls.specs.pool.Pooled.{Pooled, next_tenure}
 use Rattle.dsql_laws_calls.specs.history.Readers.Owed.{answered, left_of, owed}
 use Rattle.dsql_laws_calls.proofs.laws.Tests.{both, same_number, other_number}
 use Rattle.dsql_laws_calls.specs.history.declared.event.Event.{Event}
-use Rattle.dsql_laws_calls.specs.history.declared.event.Event.TheVariants.{Run, Entered, Heard, Pool}
+use Rattle.dsql_laws_calls.specs.history.declared.event.Event.TheVariants.{Entered, Heard, Pool}
 use Rattle.dsql_laws_calls.specs.history.declared.event.Op.TheVariants.{DbClose}
 use Rattle.dsql_laws_calls.specs.history.Readers.Pool.{pool, place}
 use Rattle.dsql_laws_calls.specs.history.Rules.Moves.{is_house_entry, hears_in}
@@ -49,13 +49,11 @@ pub fallen_own : (H : List Event) (c n : ℕ) → Lawful (Pool (Fell c n) ∷ H)
 fallen_own H c n l some = let k = keeps_of H (Pool (Fell c n)) l.1 in by H l.0 k.order k.causes
   where
     by : (K : List Event) → Lawful K → follows (owed K) (Pool (Fell c n)) ≡ true → not (is_empty (owed K)) ≡ true → is_own_step K n ≡ false
-    by [] m h due = refl
     by (Heard e ∷ K) m h due =
         let there = heard_there K e m.1 in
         let none : e.call_no ≡ 0 = same_number e.call_no 0 (layer_answers (pool K) (place K e.conn) e there.sets due) in
         ap (λ j. j == n) none ∙ other_number 0 n (λ same. some (sym same))
-    by (Run version can ∷ K) m h due = refl
     by (Entered client i DbClose ∷ K) m h due = absurd (first_falls (owed (Entered client i DbClose ∷ K)) c n (closings_fall_none DbClosed (shut (pool K)).idle) h due)
     by (Entered client i op ∷ K) m h due = absurd cc
     by (Pool move ∷ K) m h due = absurd (first_falls (left_of K move (owed K)) c n (left_falls_none K move (owed K) (later_falls_none K)) h due)
-    by (_ ∷ K) m h due = refl
+    by _ m h due = refl

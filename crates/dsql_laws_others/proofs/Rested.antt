@@ -21,20 +21,20 @@ use Rattle.dsql_laws_calls.specs.journal.Readers.{of_tenure}
 use Rattle.dsql_laws_calls.specs.journal.Readers as journals
 use Rattle.dsql_laws_calls.specs.pool.declared.conn.Place.TheVariants.{Lent}
 use Rattle.dsql_laws_calls.specs.pool.declared.moves.Fate.TheVariants.{Good}
-use Rattle.dsql_laws_calls.specs.pool.declared.moves.Move.TheVariants.{OpenStart, Lend, Back, CloseStart, Gone, Fell}
+use Rattle.dsql_laws_calls.specs.pool.declared.moves.Move.TheVariants.{Lend, Fell}
 use Rattle.dsql_laws_calls.specs.works.declared.work.Aim.TheVariants as aims
 use Rattle.dsql_laws_calls.specs.works.Journals.{ends_invalid}
 use Rattle.dsql_laws_calls.specs.works.Exchanges.{exchanges}
 use Rattle.dsql_laws_calls.specs.works.Line.{Asked, body_after, going_on, line_after, sent_as}
 use Rattle.dsql_laws_calls.proofs.laws_work.Lines.{is_over}
 use Rattle.dsql_laws_calls.specs.history.declared.record.Try.{Try}
-use Rattle.dsql_laws_calls.specs.history.declared.record.Try.TheVariants.{Served, Lost, Refused}
+use Rattle.dsql_laws_calls.specs.history.declared.record.Try.TheVariants.{Served, Refused}
 use Rattle.dsql_laws_calls.specs.history.Readers.Owed.{fate_when, fate}
 use Rattle.dsql_laws_calls.specs.history.Readers.Tries.{lost, with_try, is_tried, loses, newest_answer, tries}
 use Rattle.dsql_laws_calls.proofs.laws.Tests.{both, together, same_itself, other_number}
 use Rattle.dsql_laws_calls.proofs.laws_work.Rows.{same_or_not}
 use Rattle.dsql_laws_calls.specs.history.declared.event.Event.{Event}
-use Rattle.dsql_laws_calls.specs.history.declared.event.Event.TheVariants.{Run, Entered, Heard, Pool, Waits, Ticked, SetLimit, Replied, Ended}
+use Rattle.dsql_laws_calls.specs.history.declared.event.Event.TheVariants.{Run, Entered, Heard, Pool, Replied}
 use Rattle.dsql_laws_calls.specs.history.declared.event.Op.{Op}
 use Rattle.dsql_laws_calls.specs.history.declared.work.Work.{Work}
 use Rattle.dsql_laws_calls.specs.history.declared.work.Work.TheVariants.{Ping}
@@ -71,16 +71,13 @@ pub record Resting (can : Caps) (it : Work) (ts : List Try) : Type 0 where
   pub testless : can.validator ≡ false
 
 pub resting : (can : Caps) (it : Work) (ts : List Try) → asks_nothing can it ts ≡ true → Resting can it ts
-resting can Ping [] h = absurd cc
 resting can Ping (Served ∷ ts) h = let b = neither (can.pinger) (can.validator) h in record { pings = refl; pingless = b.0; testless = b.1 }
   where
     neither : (p v : Bool) → not (p || v) ≡ true → (p ≡ false) × (v ≡ false)
     neither true v k = absurd cc
     neither false true k = absurd cc
     neither false false k = (refl, refl)
-resting can Ping (Lost ∷ ts) h = absurd cc
-resting can Ping (Refused answer ∷ ts) h = absurd cc
-resting can _ ts h = absurd cc
+resting can _ _ h = absurd cc
 
 -- A call that rests pings.
 pub rests_pinging : (H : List Event) (n : ℕ) → rests H n ≡ true → Resting (caps H) (work H n) (tries H n)
@@ -139,10 +136,8 @@ never_lost : (can : Caps) (it : Work) (ts : List Try) → asks_nothing can it (l
 never_lost can it ts h = let r = resting can it (lost ts) h in by ts (ap (λ w. asks_nothing can w (lost ts)) (sym r.pings) ∙ h)
   where
     by : (us : List Try) → asks_nothing can Ping (lost us) ≡ true → false ≡ true
-    by [] k = k
     by (Served ∷ us) k = k
-    by (Lost ∷ us) k = k
-    by (Refused answer ∷ us) k = k
+    by _ k = k
 
 not_lost : (b : Bool) (can : Caps) (it : Work) (ts : List Try) → asks_nothing can it (cond b (lost ts) ts) ≡ true → (b ≡ false) × (asks_nothing can it ts ≡ true)
 not_lost true can it ts h = let clash : false ≡ true = never_lost can it ts h in absurd cc
@@ -242,14 +237,6 @@ step H (Pool (Fell d k)) c t own l before h had =
     let n = number_of own in
     had (together_again (is_unfinished H n) (asks_nothing (caps H) (work H n) (with_try (k == n) (Refused (newest_answer H)) (tries H n))) (asks_nothing (caps H) (work H n) (tries H n)) h
     (not_refused (k == n) (caps H) (work H n) (newest_answer H) (tries H n)))
-step H (Pool (OpenStart d k)) c t own l before h had = had h
-step H (Pool (Back d)) c t own l before h had = had h
-step H (Pool (CloseStart d why)) c t own l before h had = had h
-step H (Pool (Gone d)) c t own l before h had = had h
-step H (Waits k) c t own l before h had = had h
-step H (Ticked now) c t own l before h had = had h
-step H (SetLimit setting k) c t own l before h had = had h
-step H Ended c t own l before h had = had h
 step H (Replied k reply) c t own l before h had =
     let n = number_of own in
     let b = both (is_unfinished (Replied k reply ∷ H) n) (asks_nothing (caps H) (work H n) (tries H n)) h in
@@ -257,6 +244,7 @@ step H (Replied k reply) c t own l before h had =
     had (together (is_unfinished H n) (asks_nothing (caps H) (work H n) (tries H n)) u.1 b.1)
 step [] (Run version can) c t own l before h had = absurd cc
 step (e ∷ H) (Run version can) c t own l before h had = let clash : false ≡ true = run_first e H version can l.1 in absurd cc
+step H _ c t own l before h had = had h
 
 pub only_resets : (H : List Event) (c t : ℕ) (own : Owner) → Lawful H → place H c ≡ Some (Lent t own) → rests H (number_of own) ≡ true → OnlyReset (heard_in H c t)
 only_resets [] c t own l at h = absurd cc

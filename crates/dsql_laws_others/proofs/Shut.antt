@@ -8,7 +8,7 @@ use Rattle.dsql_laws_calls.specs.journal.declared.entry.Owner.{Owner}
 use Rattle.dsql_laws_calls.specs.journal.Kinds.{number_of}
 use Rattle.dsql_laws_calls.specs.pool.declared.conn.Conn.{Conn}
 use Rattle.dsql_laws_calls.specs.pool.declared.conn.Place.{Place}
-use Rattle.dsql_laws_calls.specs.pool.declared.conn.Place.TheVariants.{Idle, Lent, Opening, Closing}
+use Rattle.dsql_laws_calls.specs.pool.declared.conn.Place.TheVariants.{Lent, Opening}
 use Rattle.dsql_laws_calls.specs.pool.Moved.{shut}
 use Rattle.dsql_laws_calls.specs.pool.Places.{conn_of, is_lent}
 use Rattle.dsql_laws_calls.specs.pool.Pooled.{Pooled}
@@ -51,22 +51,16 @@ pub lent_first : (H : List Event) (e : Event) (d u : ℕ) (o : Owner) → Shuts 
 lent_first H e d u o s is = wanted (place H d) (sym (same_place H e d s) ∙ is)
   where
     wanted : (at : Option Place) → option_map unwanted_place at ≡ Some (Lent u o) → at ≡ Some (Lent u o)
-    wanted None k = absurd cc
-    wanted (Some Idle) k = absurd cc
     wanted (Some (Lent v p)) k = k
-    wanted (Some (Opening w)) k = absurd cc
-    wanted (Some Closing) k = absurd cc
+    wanted _ k = absurd cc
 
 -- No connection is opened for a call.
 none_opened : (H : List Event) (e : Event) (d : ℕ) (o : Owner) → Shuts H e → place (e ∷ H) d ≡ Some (Opening (Some o)) → ⊥
 none_opened H e d o s is = never (place H d) (sym (same_place H e d s) ∙ is)
   where
     never : (at : Option Place) → option_map unwanted_place at ≡ Some (Opening (Some o)) → ⊥
-    never None k = cc
-    never (Some Idle) k = cc
-    never (Some (Lent v p)) k = cc
     never (Some (Opening w)) k = let clash : None ≡ Some o = cc in cc
-    never (Some Closing) k = cc
+    never _ k = cc
 
 same_resets : (H : List Event) (e : Event) (d : ℕ) → Shuts H e → is_reset_due (e ∷ H) d ≡ is_reset_due H d
 same_resets H e d s =

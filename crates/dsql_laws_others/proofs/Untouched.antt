@@ -112,11 +112,8 @@ control_ends H (Set MaxLife k) j = let K = told (Set MaxLife k) ∷ H in ends_al
 control_ends H (Set MaxIdleTime k) j = let K = told (Set MaxIdleTime k) ∷ H in ends_alike H K j refl refl refl (record { first = closings_alike H K j refl (λ i. refl) (control_lines H (Set MaxIdleTime k)); can = refl; heard = refl })
 
 control_sent : (H : List Event) (control : Control) (m : ℕ) → has_begun_to_send (told control ∷ H) m ≡ has_begun_to_send H m
-control_sent H (Tick k) m = refl
 control_sent H (Set MaxOpen k) m = refl
-control_sent H (Set MaxIdle k) m = refl
-control_sent H (Set MaxLife k) m = refl
-control_sent H (Set MaxIdleTime k) m = refl
+control_sent H _ m = refl
 
 pub due_control : (H : List Event) (control : Control) (m : ℕ) → due_for (told control ∷ H) m ≡ due_for H m
 due_control H (Tick k) m =

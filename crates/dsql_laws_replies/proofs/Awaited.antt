@@ -91,9 +91,7 @@ run_not_tested asked text h = by_aim asked.aim h
   where
     by_aim : (x : Aim) → is_due (Some (run_for x (Text text) asked.params)) Valid ≡ true → ⊥
     by_aim aims.Execute k = cc
-    by_aim aims.ReadOne k = cc
-    by_aim aims.HandOut k = cc
-    by_aim aims.Ping k = cc
+    by_aim _ k = cc
 
 first_untested : (can : Caps) (asked : Asked) (w : Wish) → needs_answer can asked.aim ≡ true → is_due (body_after can asked w []) Valid ≡ true → ⊥
 first_untested can asked w needs h = by_aim asked.aim needs (rw (body_before can asked w [] refl, first_of can asked.text asked.params asked.aim) at h)
@@ -153,9 +151,7 @@ closes_other can asked handle h true k = by_aim asked.aim k
   where
     by_aim : (x : Aim) → is_due (Some (run_for x (Handle handle) asked.params)) (CloseStmt h) ≡ true → true ≡ false
     by_aim aims.Execute m = absurd cc
-    by_aim aims.ReadOne m = absurd cc
-    by_aim aims.HandOut m = absurd cc
-    by_aim aims.Ping m = absurd cc
+    by_aim _ m = absurd cc
 closes_other can asked handle h false k = refl
 
 abbrev inputs_in : Option (ℕ × ℤ) → ℤ
@@ -265,14 +261,12 @@ no_cursor made rows h k = cc
 
 -- A call that hands out rows awaits no answer after it has them.
 opened_none : (can : Caps) (text : List ℕ) (params : List Param) (aim : Aim) (s : Step) (made : List Exchange) (rows : ℕ) → MadeAt can (asking text params aim) s made → handed aim made ≡ Some rows → is_awaiting (is_one aim) s ≡ false
-opened_none can text params aims.Execute s made rows m h = absurd cc
-opened_none can text params aims.ReadOne s made rows m h = absurd cc
-opened_none can text params aims.Ping s made rows m h = absurd cc
 opened_none can text params aims.HandOut Start made rows m h = absurd (no_cursor made rows (ap own_cursor m) h)
 opened_none can text params aims.HandOut WasReset made rows m h = absurd (no_cursor made rows (ap own_cursor m) h)
 opened_none can text params aims.HandOut WasSkipped made rows m h = absurd (no_cursor made rows (ap own_cursor m.0) h)
 opened_none can text params aims.HandOut (WasPrepared handle) made rows m h = absurd (no_cursor made rows m.none h)
 opened_none can text params aims.HandOut _ made rows m h = refl
+opened_none can text params _ s made rows m h = absurd cc
 
 pub handed_awaits : (can : Caps) (asked : Asked) (L : List Entry) (rows : ℕ) → MadeAt can asked (step L) (exchanges L) → handed asked.aim (exchanges L) ≡ Some rows → awaits (is_one asked.aim) L (length asked.params) ≡ false
 handed_awaits can asked L rows m h = none_awaited (is_one asked.aim) L (length asked.params) (opened_none can asked.text asked.params asked.aim (step L) (exchanges L) rows m h)

@@ -69,10 +69,8 @@ holds_more n e L h = by (grows n e L)
 heard_gives : (H : List Event) (it : Work) (m : ℕ) (q : DriverCall) (a : DriverAnswer) (n : ℕ) (R : Made) (made : List Exchange) → is_some (rows_of n (rows_heard H it m q a R)) ≡ true → (is_some (rows_of n R) ≡ true) ⊎ (is_some (own_cursor (with_exchange (step_of q) a made)) ≡ true)
 heard_gives H (HandOut s label) m (Query (Text text) params) (Cursor cursor columns) n R made h = inr refl
 heard_gives H (HandOut s label) m (Query (Handle handle) params) (Cursor cursor columns) n R made h = inr refl
-heard_gives H (HandOut s label) m q a n R made h = inl h
 heard_gives H (Fetch k) m (Next cursor) a n R made h = inl (sym (some_changed (fetched a) k n R) ∙ h)
-heard_gives H (Fetch k) m q a n R made h = inl h
-heard_gives H it m q a n R made h = inl h
+heard_gives H _ m q a n R made h = inl h
 
 answer_holds : (H : List Event) (e : Entry) (c t : ℕ) (own : Owner) (n : ℕ) → Lawful (Heard e ∷ H) → place H c ≡ Some (Lent t own) → hands_out_in (number_of own) (work H n) ≡ true → is_some (rows_by (Heard e ∷ H) n) ≡ true
     → (is_some (rows_by H n) ≡ true → holds (heard_in H c t) n ≡ true) → holds (heard_in (Heard e ∷ H) c t) n ≡ true

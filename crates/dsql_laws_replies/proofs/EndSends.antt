@@ -118,9 +118,7 @@ after_kind H bad end L p h = by (list_any (λ e. is_ending e.call) L) (bad || li
   where
     end_call : (x : TxEnd) → end_kind (ended_by_call x) ≡ true
     end_call tx_ends.Commit = refl
-    end_call tx_ends.Rollback = refl
-    end_call (tx_ends.Cancel cause) = refl
-    end_call tx_ends.EndOfRun = refl
+    end_call _ = refl
 
     by : (a b v : Bool) → cond a (cond b None (cond v (Some Valid) None)) (Some (ended_by_call end)) ≡ Some p → end_kind p ≡ true
     by false b v x = ap end_kind (same_some p (ended_by_call end) (sym x)) ∙ end_call end
@@ -178,12 +176,10 @@ pub end_decides : (again : Bool) (number count k : ℕ) (q : DriverCall) (a : Dr
 end_decides again number count k Commit Done d e fit heard = refl
 end_decides again number count k Commit Bad d e fit heard = refl
 end_decides again number count k Commit (Fail why) d e fit heard = refl
-end_decides again number count k Commit a d e fit heard = absurd cc
 end_decides again number count k Rollback Done d e fit heard = refl
 end_decides again number count k Rollback Bad d e fit heard = refl
 end_decides again number count k Rollback (Fail why) d e fit heard = refl
-end_decides again number count k Rollback a d e fit heard = absurd cc
-end_decides again number count k q a d e fit heard = absurd cc
+end_decides again number count k _ a d e fit heard = absurd cc
 
 pub end_keeps : (again : Bool) (number count k : ℕ) (q : DriverCall) (a : DriverAnswer) (d : Option Reply) → end_kind q ≡ true → fits_of q a ≡ true → is_memory a ≡ false → is_some d ≡ true → is_some (decision again number count (End k) q a d) ≡ true
 end_keeps again number count k (CloseRows r) a d kind fit heard some = closing_decides number a d some

@@ -129,9 +129,6 @@ inner_quiet H e n k l none u s i = by i
 -- A call that awaits an answer has handed out no rows.
 pub unhanded : (can : Caps) (aim : Aim) (count : ℕ) (made : List Exchange) → Awaiting can aim count made → handed aim made ≡ None
 unhanded can aim count made (inr (inr (one, x))) = ap (λ a. handed a made) one
-unhanded can aims.Execute count made h = refl
-unhanded can aims.ReadOne count made h = refl
-unhanded can aims.Ping count made h = refl
 unhanded can aims.HandOut count made (inl (inl f)) = rw f refl
 unhanded can aims.HandOut count made (inl (inr f)) = rw f refl
 unhanded can aims.HandOut count made (inr (inl p)) = rw p.is (opened p.rest p.before)
@@ -139,6 +136,7 @@ unhanded can aims.HandOut count made (inr (inl p)) = rw p.is (opened p.rest p.be
     opened : (rest : List Exchange) → Fresh rest → own_cursor rest ≡ None
     opened rest (inl f) = rw f refl
     opened rest (inr f) = rw f refl
+unhanded can _ count made h = refl
 
 -- So the next step of its course comes next in its line.
 line_next : (H : List Event) (c t : ℕ) (own : Owner) (n k : ℕ) → Lawful H → place H c ≡ Some (Lent t own) → number_of own ≡ k → is_begun H k ≡ true → scope (work H n) ≡ Tx k → handed (asked_by H n).aim (line_made H c t n) ≡ None

@@ -67,42 +67,30 @@ on_text number can count k text params (Execute (Tx j)) (Exec (Text t) ps) (Resu
 on_text number can count k text params (Execute (Tx j)) (Exec (Text t) ps) Skip d made s none fast h fit heard = inr (inl (inr (ap (λ m. (due.Text, got.Skip) ∷ m) none)))
 on_text number can count k text params (Execute (Tx j)) (Exec (Text t) ps) Bad d made s none fast h fit heard = inl (refl, inr (inl (record { answer = got.Bad; fast = fast; is = ap (λ m. (due.Text, got.Bad) ∷ m) none; ends = refl })))
 on_text number can count k text params (Execute (Tx j)) (Exec (Text t) ps) (Fail why) d made s none fast h fit heard = inl (refl, inr (inl (record { answer = got.Fail; fast = fast; is = ap (λ m. (due.Text, got.Fail) ∷ m) none; ends = refl })))
-on_text number can count k text params (Execute (Tx j)) (Exec (Text t) ps) a d made s none fast h fit heard = absurd cc
-on_text number can count k text params (Execute (Tx j)) q a d made s none fast h fit heard = absurd cc
 on_text number can count k text params (HandOut (Tx j) label) (Query (Text t) ps) (Cursor rows columns) d made s none fast h fit heard = inl (refl, inr (inl (record { answer = got.Cursor rows; fast = fast; is = ap (λ m. (due.Text, got.Cursor rows) ∷ m) none; ends = refl })))
 on_text number can count k text params (HandOut (Tx j) label) (Query (Text t) ps) Skip d made s none fast h fit heard = inr (inl (inr (ap (λ m. (due.Text, got.Skip) ∷ m) none)))
 on_text number can count k text params (HandOut (Tx j) label) (Query (Text t) ps) Bad d made s none fast h fit heard = inl (refl, inr (inl (record { answer = got.Bad; fast = fast; is = ap (λ m. (due.Text, got.Bad) ∷ m) none; ends = refl })))
 on_text number can count k text params (HandOut (Tx j) label) (Query (Text t) ps) (Fail why) d made s none fast h fit heard = inl (refl, inr (inl (record { answer = got.Fail; fast = fast; is = ap (λ m. (due.Text, got.Fail) ∷ m) none; ends = refl })))
-on_text number can count k text params (HandOut (Tx j) label) (Query (Text t) ps) a d made s none fast h fit heard = absurd cc
-on_text number can count k text params (HandOut (Tx j) label) q a d made s none fast h fit heard = absurd cc
 on_text number can count k text params (ReadOne (Tx j) dests) (Query (Text t) ps) (Cursor rows columns) d made s none fast h fit heard =
     inr (inr (inr (refl, inl (record { rows = rows; fast = fast; is = ap (λ m. (due.Text, got.Cursor rows) ∷ m) none }))))
 on_text number can count k text params (ReadOne (Tx j) dests) (Query (Text t) ps) Skip d made s none fast h fit heard = inr (inl (inr (ap (λ m. (due.Text, got.Skip) ∷ m) none)))
 on_text number can count k text params (ReadOne (Tx j) dests) (Query (Text t) ps) Bad d made s none fast h fit heard = inl (refl, inr (inl (record { answer = got.Bad; fast = fast; is = ap (λ m. (due.Text, got.Bad) ∷ m) none; ends = refl })))
 on_text number can count k text params (ReadOne (Tx j) dests) (Query (Text t) ps) (Fail why) d made s none fast h fit heard = inl (refl, inr (inl (record { answer = got.Fail; fast = fast; is = ap (λ m. (due.Text, got.Fail) ∷ m) none; ends = refl })))
-on_text number can count k text params (ReadOne (Tx j) dests) (Query (Text t) ps) a d made s none fast h fit heard = absurd cc
-on_text number can count k text params (ReadOne (Tx j) dests) q a d made s none fast h fit heard = absurd cc
-on_text number can count k text params it q a d made s none fast h fit heard = absurd cc
+on_text number can count k text params _ _ a d made s none fast h fit heard = absurd cc
 
 on_handle : (number : ℕ) (can : Caps) (count k handle : ℕ) (params : List Param) (it : Work) (q : DriverCall) (a : DriverAnswer) (d : Option Reply) (made : List Exchange) → scope it ≡ Tx k → IsPrepared count made
     → is_due (Some (run_for (aim_of it) (Handle handle) params)) q ≡ true → fits_of q a ≡ true → is_memory a ≡ false → Outcome number can count it q a d made
 on_handle number can count k handle params (Execute (Tx j)) (Exec (Handle t) ps) (Result last affected) d made s p h fit heard = inl (refl, inl (record { call = due.Handle t; answer = got.Result; rest = made; is = refl; late = refl }))
 on_handle number can count k handle params (Execute (Tx j)) (Exec (Handle t) ps) Bad d made s p h fit heard = inl (refl, inl (record { call = due.Handle t; answer = got.Bad; rest = made; is = refl; late = refl }))
 on_handle number can count k handle params (Execute (Tx j)) (Exec (Handle t) ps) (Fail why) d made s p h fit heard = inl (refl, inl (record { call = due.Handle t; answer = got.Fail; rest = made; is = refl; late = refl }))
-on_handle number can count k handle params (Execute (Tx j)) (Exec (Handle t) ps) a d made s p h fit heard = absurd cc
-on_handle number can count k handle params (Execute (Tx j)) q a d made s p h fit heard = absurd cc
 on_handle number can count k handle params (HandOut (Tx j) label) (Query (Handle t) ps) (Cursor rows columns) d made s p h fit heard = inl (refl, inl (record { call = due.Handle t; answer = got.Cursor rows; rest = made; is = refl; late = refl }))
 on_handle number can count k handle params (HandOut (Tx j) label) (Query (Handle t) ps) Bad d made s p h fit heard = inl (refl, inl (record { call = due.Handle t; answer = got.Bad; rest = made; is = refl; late = refl }))
 on_handle number can count k handle params (HandOut (Tx j) label) (Query (Handle t) ps) (Fail why) d made s p h fit heard = inl (refl, inl (record { call = due.Handle t; answer = got.Fail; rest = made; is = refl; late = refl }))
-on_handle number can count k handle params (HandOut (Tx j) label) (Query (Handle t) ps) a d made s p h fit heard = absurd cc
-on_handle number can count k handle params (HandOut (Tx j) label) q a d made s p h fit heard = absurd cc
 on_handle number can count k handle params (ReadOne (Tx j) dests) (Query (Handle t) ps) (Cursor rows columns) d made s p h fit heard =
     inr (inr (inr (refl, inr (record { rows = rows; run = t; handle = p.handle; inputs = p.inputs; rest = p.rest; is = ap (λ m. (due.Handle t, got.Cursor rows) ∷ m) p.is; before = p.before }))))
 on_handle number can count k handle params (ReadOne (Tx j) dests) (Query (Handle t) ps) Bad d made s p h fit heard = inl (refl, inl (record { call = due.Handle t; answer = got.Bad; rest = made; is = refl; late = refl }))
 on_handle number can count k handle params (ReadOne (Tx j) dests) (Query (Handle t) ps) (Fail why) d made s p h fit heard = inl (refl, inl (record { call = due.Handle t; answer = got.Fail; rest = made; is = refl; late = refl }))
-on_handle number can count k handle params (ReadOne (Tx j) dests) (Query (Handle t) ps) a d made s p h fit heard = absurd cc
-on_handle number can count k handle params (ReadOne (Tx j) dests) q a d made s p h fit heard = absurd cc
-on_handle number can count k handle params it q a d made s p h fit heard = absurd cc
+on_handle number can count k handle params _ _ a d made s p h fit heard = absurd cc
 
 on_next : (number : ℕ) (can : Caps) (count k rows : ℕ) (it : Work) (q : DriverCall) (a : DriverAnswer) (d : Option Reply) (made : List Exchange) → scope it ≡ Tx k → aim_of it ≡ aims.ReadOne
     → is_due (Some (Next rows)) q ≡ true → fits_of q a ≡ true → is_memory a ≡ false → Outcome number can count it q a d made
@@ -110,9 +98,7 @@ on_next number can count k rows (ReadOne (Tx j) dests) (Next r) (Row values) d m
 on_next number can count k rows (ReadOne (Tx j) dests) (Next r) End d made s one h fit heard = inl (refl, inl (record { call = due.Next r; answer = got.End; rest = made; is = refl; late = refl }))
 on_next number can count k rows (ReadOne (Tx j) dests) (Next r) Bad d made s one h fit heard = inl (refl, inl (record { call = due.Next r; answer = got.Bad; rest = made; is = refl; late = refl }))
 on_next number can count k rows (ReadOne (Tx j) dests) (Next r) (Fail why) d made s one h fit heard = inl (refl, inl (record { call = due.Next r; answer = got.Fail; rest = made; is = refl; late = refl }))
-on_next number can count k rows (ReadOne (Tx j) dests) (Next r) a d made s one h fit heard = absurd cc
-on_next number can count k rows (ReadOne (Tx j) dests) q a d made s one h fit heard = absurd cc
-on_next number can count k rows it q a d made s one h fit heard = absurd cc
+on_next number can count k rows _ _ a d made s one h fit heard = absurd cc
 
 -- If the call awaited an answer and a driver call that is due was answered, this holds.
 pub inner_settles : (number : ℕ) (can : Caps) (bad : Bool) (text : List ℕ) (params : List Param) (it : Work) (k : ℕ) (made : List Exchange) (q : DriverCall) (a : DriverAnswer) (d : Option Reply) → scope it ≡ Tx k → Awaiting can (aim_of it) (length params) made

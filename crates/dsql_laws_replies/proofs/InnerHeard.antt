@@ -71,11 +71,9 @@ closing_step can bad count made PrepareText h e k = by (not can.fast_query || wa
     by : (b : Bool) → when (b && false) due.Prepare ≡ Some e → is_tidy aims.HandOut e ≡ true
     by true x = absurd cc
     by false x = absurd cc
-closing_step can bad count made RunHandle h e k = absurd cc
-closing_step can bad count made FetchRow h e k = absurd cc
 closing_step can bad count made CloseCursor h e k = close_rows (not bad) (own_cursor made) e k
 closing_step can bad count made CloseHandle h e k = close_stmt (not bad) (own_handle made) e k
-closing_step can bad count made s h e k = absurd cc
+closing_step can bad count made _ h e k = absurd cc
 
 either_tidy : (o : Option Due) (d : Due) → ((e : Due) → o ≡ Some e → is_tidy aims.HandOut e ≡ true) → is_tidy aims.HandOut d ≡ true → is_tidy aims.HandOut (or_then o d) ≡ true
 either_tidy None d first later = later

@@ -88,16 +88,12 @@ either_tidy aim (Some e) d first later = first e refl
 close_rows : (aim : Aim) (o : Option ℕ) (e : Due) → option_map (λ rows. due.CloseRows rows) o ≡ Some e → is_tidy aim e ≡ true
 close_rows aim None e h = absurd cc
 close_rows aims.ReadOne (Some r) e h = let x : e ≡ due.CloseRows r = cc in rw x refl
-close_rows aims.Execute (Some r) e h = let x : e ≡ due.CloseRows r = cc in rw x refl
-close_rows aims.HandOut (Some r) e h = let x : e ≡ due.CloseRows r = cc in rw x refl
-close_rows aims.Ping (Some r) e h = let x : e ≡ due.CloseRows r = cc in rw x refl
+close_rows _ (Some r) e h = let x : e ≡ due.CloseRows r = cc in rw x refl
 
 close_stmt : (aim : Aim) (o : Option (ℕ × ℤ)) (e : Due) → option_map (λ (handle : ℕ × ℤ). due.CloseStmt handle.0) o ≡ Some e → is_tidy aim e ≡ true
 close_stmt aim None e h = absurd cc
 close_stmt aims.ReadOne (Some r) e h = let x : e ≡ due.CloseStmt r.0 = cc in rw x refl
-close_stmt aims.Execute (Some r) e h = let x : e ≡ due.CloseStmt r.0 = cc in rw x refl
-close_stmt aims.HandOut (Some r) e h = let x : e ≡ due.CloseStmt r.0 = cc in rw x refl
-close_stmt aims.Ping (Some r) e h = let x : e ≡ due.CloseStmt r.0 = cc in rw x refl
+close_stmt _ (Some r) e h = let x : e ≡ due.CloseStmt r.0 = cc in rw x refl
 
 when_so : (aim : Aim) (b : Bool) (o : Option Due) → ((e : Due) → o ≡ Some e → is_tidy aim e ≡ true) → (e : Due) → (if b then o else None) ≡ Some e → is_tidy aim e ≡ true
 when_so aim true o h e k = h e k
@@ -108,19 +104,15 @@ fetch_tidy None e h = absurd cc
 fetch_tidy (Some r) e h = let x : e ≡ due.Next r = cc in rw x refl
 
 step_tidy : (can : Caps) (bad : Bool) (count : ℕ) (made : List Exchange) (aim : Aim) (s : Step) → has_text aim ≡ true → tidies s ≡ true → (e : Due) → wanted (course_of aim) can count (found bad) made s ≡ Some e → is_tidy aim e ≡ true
-step_tidy can bad count made aims.Execute FetchRow x h e k = absurd cc
-step_tidy can bad count made aims.HandOut FetchRow x h e k = absurd cc
 step_tidy can bad count made aims.ReadOne FetchRow x h e k = fetch_tidy (own_cursor made) e k
 step_tidy can bad count made aim CloseCursor x h e k = when_so aim (reads_one (course_of aim) && not bad) (option_map (λ rows. due.CloseRows rows) (own_cursor made)) (close_rows aim (own_cursor made)) e k
 step_tidy can bad count made aim CloseHandle x h e k =
     when_so aim (lets_handle_go (course_of aim) (found bad) made && not bad) (option_map (λ (handle : ℕ × ℤ). due.CloseStmt handle.0) (own_handle made)) (close_stmt aim (own_handle made)) e k
-step_tidy can bad count made aim s x h e k = absurd cc
+step_tidy can bad count made _ _ x h e k = absurd cc
 
 over_tidy : (aim : Aim) → is_tidy aim due.Over ≡ true
 over_tidy aims.Execute = refl
-over_tidy aims.ReadOne = refl
-over_tidy aims.HandOut = refl
-over_tidy aims.Ping = refl
+over_tidy _ = refl
 
 tails_tidy : (can : Caps) (bad : Bool) (count : ℕ) (made : List Exchange) (aim : Aim) (ss : List Step) → has_text aim ≡ true → list_all tidies ss ≡ true → is_tidy aim (first_wanted (course_of aim) can count (found bad) made ss) ≡ true
 tails_tidy can bad count made aim [] x h = over_tidy aim

@@ -14,7 +14,7 @@ use Rattle.dsql_laws_calls.specs.pool.Calls.{wants}
 use Rattle.dsql_laws_calls.specs.pool.Places.{is_for}
 use Rattle.dsql_laws_calls.specs.rows.declared.rows.Rows.{Rows}
 use Rattle.dsql_laws_calls.specs.history.declared.record.Try.{Try}
-use Rattle.dsql_laws_calls.specs.history.declared.record.Try.TheVariants.{Served, Lost, Refused}
+use Rattle.dsql_laws_calls.specs.history.declared.record.Try.TheVariants.{Served}
 use Rattle.dsql_laws_calls.specs.history.Readers.HandedOut.{live, are_live, rows_by}
 use Rattle.dsql_laws_calls.specs.history.Readers.Pool.{is_home, pool}
 use Rattle.dsql_laws_calls.specs.history.Readers.Tries.{was_served, tries}
@@ -80,11 +80,8 @@ lent_used H n (x ∷ xs) used free unwanted =
 
 -- A call that wasn't served is no ping with nothing to ask.
 untold : (can : Caps) (it : Work) (tried : List Try) → was_served tried ≡ false → asks_nothing can it tried ≡ false
-untold can Ping [] h = refl
 untold can Ping (Served ∷ tried) h = absurd cc
-untold can Ping (Lost ∷ tried) h = refl
-untold can Ping (Refused answer ∷ tried) h = refl
-untold can it tried h = refl
+untold can _ _ h = refl
 
 -- A call that wasn't served rests with no connection.
 pub restless : (H : List Event) (n : ℕ) → was_served (tries H n) ≡ false → rests H n ≡ false

@@ -60,10 +60,8 @@ none_some (Some x) none some = absurd cc
 new_told : (H : List Event) (again : Bool) (number count m : ℕ) (it : Work) (q : DriverCall) (a : DriverAnswer) (d : Option Reply) (R : Made) → rows_of m R ≡ None → is_some (rows_of m (rows_heard H it m q a R)) ≡ true
     → is_some (decision again number count it q a d) ≡ true
 new_told H again number count m (HandOut s label) (Query input params) (answers.Cursor cursor columns) d R none some = refl
-new_told H again number count m (HandOut s label) q a d R none some = none_some (rows_of m R) none some
 new_told H again number count m (Fetch k) (Next cursor) a d R none some = none_some (rows_of m R) none (sym (some_changed (fetched a) k m R) ∙ some)
-new_told H again number count m (Fetch k) q a d R none some = none_some (rows_of m R) none some
-new_told H again number count m it q a d R none some = none_some (rows_of m R) none some
+new_told H again number count m _ q a d R none some = none_some (rows_of m R) none some
 
 -- What comes over the rows later leaves a reply decided.
 

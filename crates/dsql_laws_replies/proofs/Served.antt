@@ -19,7 +19,7 @@ use Rattle.dsql_laws_calls.proofs.laws_work.CallLines.{step}
 use Rattle.dsql_laws_calls.proofs.laws_work.HandedLines.{SentAt, due_over}
 use Rattle.dsql_laws_calls.proofs.laws_work.Lines.{made_on, goes_due, sent_of}
 use Rattle.dsql_laws_calls.specs.history.declared.record.Try.{Try}
-use Rattle.dsql_laws_calls.specs.history.declared.record.Try.TheVariants.{Served, Lost, Refused}
+use Rattle.dsql_laws_calls.specs.history.declared.record.Try.TheVariants.{Served, Refused}
 use Rattle.dsql_laws_calls.specs.history.Readers.Tries.{try_number, with_try, lost, was_served, tries, tries_again, newest_answer, loses}
 use Rattle.dsql_laws_calls.proofs.laws.Tests.{both, same_number, same_itself, other_number, together}
 use Rattle.dsql_laws_replies.proofs.Awaited.{is_one, needs_answer, awaits}
@@ -67,11 +67,9 @@ never b x y = cc
 
 -- A call that is served after an answer was served before it, and the answer didn't lose the try.
 still_served : (b : Bool) (ts : List Try) → was_served (cond b (lost ts) ts) ≡ true → (b ≡ false) × (was_served ts ≡ true)
-still_served true [] h = absurd cc
 still_served true (Served ∷ ts) h = absurd cc
-still_served true (Lost ∷ ts) h = absurd cc
-still_served true (Refused answer ∷ ts) h = absurd cc
 still_served false ts h = (refl, h)
+still_served true _ h = absurd cc
 
 not_both : (a b : Bool) → a ≡ true → (a && b) ≡ false → b ≡ false
 not_both true b h k = k
@@ -224,15 +222,11 @@ served_asks (Entered client m op ∷ H) n l h some =
     let own = served_asks H n l.0 h some in
     ap asks (work_stays H (Entered client m op) n (not_looking (work H n) own)) ∙ own
 served_asks (Heard e ∷ H) n l h some = let kept = still_served ((e.call_no == n) && loses (work H n) e) (tries H n) h in served_asks H n l.0 kept.1 some
-served_asks (Pool (OpenStart c m) ∷ H) n l h some = served_asks H n l.0 h some
 served_asks (Pool (Lend c t o m) ∷ H) n l h some = by (λ k. served_asks H n l.0 k some) (m == n) refl h
   where
     by : (was_served (tries H n) ≡ true → asks (work H n) ≡ true) → (b : Bool) → (m == n) ≡ b → was_served (with_try b Served (tries H n)) ≡ true → asks (work H n) ≡ true
     by rest true is k = let same = same_number m n is in subst (λ j. asks (work H j) ≡ true) same (lends_asker H c t o m l.0 l.1 (λ none. some (sym same ∙ none)))
     by rest false is k = rest k
-served_asks (Pool (Back c) ∷ H) n l h some = served_asks H n l.0 h some
-served_asks (Pool (CloseStart c why) ∷ H) n l h some = served_asks H n l.0 h some
-served_asks (Pool (Gone c) ∷ H) n l h some = served_asks H n l.0 h some
 served_asks (Pool (Fell c m) ∷ H) n l h some = by (λ k. served_asks H n l.0 k some) (m == n) h
   where
     by : (was_served (tries H n) ≡ true → asks (work H n) ≡ true) → (b : Bool) → was_served (with_try b (Refused (newest_answer H)) (tries H n)) ≡ true → asks (work H n) ≡ true
@@ -295,10 +289,7 @@ served_decides H n l u h needs none = by (settles H n l (unfinished_from_one H n
 -- A ping that needs no answer has its reply as it gets its connection.
 told_lent : (can : Caps) (it : Work) (ts : List Try) → needs_answer can (aim_of it) ≡ false → was_served ts ≡ true → is_some (told_as_lent can it ts) ≡ true
 told_lent can works_of.Ping (Served ∷ earlier) needless h = ap (λ (b : Bool). is_some (cond b None (Some reply.Ok))) needless
-told_lent can works_of.Ping (Lost ∷ earlier) needless h = absurd cc
-told_lent can works_of.Ping (Refused answer ∷ earlier) needless h = absurd cc
-told_lent can works_of.Ping [] needless h = absurd cc
-told_lent can it ts needless h = absurd cc
+told_lent can _ _ needless h = absurd cc
 
 lent_settled : (o p q : Option Reply) → is_some q ≡ true → is_some (or_else (or_else o p) q) ≡ true
 lent_settled None None q h = h

@@ -118,6 +118,4 @@ handed_about can asked bad wish made rows q own order h = by_aim asked.aim own h
     by_aim : (x : Aim) → handed x made ≡ Some rows → is_due (body_after (untested can) bad (asking asked.text asked.params x) wish made) q ≡ true → is_about made q ≡ true
     by_aim aims.HandOut own k =
         about_due can (asking asked.text asked.params aims.HandOut) (length asked.params) rows bad wish made q (rw own at k) (body_sends can (asking asked.text asked.params aims.HandOut) bad wish made q refl order k)
-    by_aim aims.Execute own k = absurd cc
-    by_aim aims.ReadOne own k = absurd cc
-    by_aim aims.Ping own k = absurd cc
+    by_aim _ own k = absurd cc

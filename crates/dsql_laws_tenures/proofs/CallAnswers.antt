@@ -100,13 +100,8 @@ text_call : (can : Caps) (text : List ℕ) (params : List Param) (aim : Aim) (q 
 text_call can text params aims.Execute (Exec (Text other) others) a it fit h = record { step = refl; may = exec_text other others a fit }
 text_call can text params aims.ReadOne (Query (Text other) others) a it fit h = record { step = refl; may = query_text courses.One other others a refl fit }
 text_call can text params aims.HandOut (Query (Text other) others) a it fit h = record { step = refl; may = query_text courses.Query other others a refl fit }
-text_call can text params aims.Execute (Exec (Handle handle) others) a it fit h = absurd (impossible h)
-text_call can text params aims.ReadOne (Query (Handle handle) others) a it fit h = absurd (impossible h)
-text_call can text params aims.HandOut (Query (Handle handle) others) a it fit h = absurd (impossible h)
-text_call can text params aims.Execute _ a it fit h = absurd (impossible h)
-text_call can text params aims.ReadOne _ a it fit h = absurd (impossible h)
-text_call can text params aims.HandOut _ a it fit h = absurd (impossible h)
 text_call can text params aims.Ping q a it fit h = absurd (impossible it)
+text_call can text params _ _ a it fit h = absurd (impossible h)
 
 handle_call : (can : Caps) (text : List ℕ) (params : List Param) (aim : Aim) (handle : ℕ) (q : DriverCall) (a : DriverAnswer) → asks_text aim ≡ true → fits_of q a && not (is_memory a) ≡ true
     → is_due (sent_as (untested can) (asking text params aim) (due.Handle handle)) q ≡ true → IsCall (course_of aim) (due.Handle handle) q a
@@ -119,13 +114,8 @@ handle_call can text params aims.ReadOne handle (Query (Handle other) others) a 
 handle_call can text params aims.HandOut handle (Query (Handle other) others) a it fit h =
     let same : handle ≡ other = same_number handle other (first_of (handle == other) (same_params params others) h) in
     rw same (record { step = refl; may = query_handle courses.Query other others a refl fit })
-handle_call can text params aims.Execute handle (Exec (Text other) others) a it fit h = absurd (impossible h)
-handle_call can text params aims.ReadOne handle (Query (Text other) others) a it fit h = absurd (impossible h)
-handle_call can text params aims.HandOut handle (Query (Text other) others) a it fit h = absurd (impossible h)
-handle_call can text params aims.Execute handle _ a it fit h = absurd (impossible h)
-handle_call can text params aims.ReadOne handle _ a it fit h = absurd (impossible h)
-handle_call can text params aims.HandOut handle _ a it fit h = absurd (impossible h)
 handle_call can text params aims.Ping handle q a it fit h = absurd (impossible it)
+handle_call can text params _ handle _ a it fit h = absurd (impossible h)
 
 prepare_call : (c : Course) (text : List ℕ) (q : DriverCall) (a : DriverAnswer) → fits_of q a && not (is_memory a) ≡ true → is_due (Some (Prepare text)) q ≡ true → IsCall c due.Prepare q a
 prepare_call c text (Prepare other) a fit h = record { step = refl; may = prepare_may c other a fit }

@@ -140,8 +140,6 @@ none_sent n (e ∷ L) h =
   where
     not_about : (q : DriverCall) → (if is_about [] q then e ∷ [] else []) ≡ []
     not_about (Next rows) = refl
-    not_about (CloseRows rows) = refl
-    not_about (CloseStmt handle) = refl
     not_about _ = refl
 
 pub lines_more : (can : Caps) (asked later : ℕ → Option Asked) (t : ℕ) (J : List Entry) → KeepsLines can asked t J → Grows asked later (of_tenure t J) → KeepsLines can later t J

@@ -20,20 +20,11 @@ use Rattle.dsql_laws_tenures.proofs.Orders.{is_text, is_prepare, is_free, Orderl
 pub cursor_to : (c : Course) (d : Due) (g : Got) → may_get c d g ≡ true → gives_cursor (d, g) ≡ true → (reads_rows c ≡ true) × (is_prepare d ≡ false)
 cursor_to c due.Text (got.Cursor rows) h k = (h, refl)
 cursor_to c (due.Handle handle) (got.Cursor rows) h k = (h, refl)
-cursor_to c due.Prepare (got.Cursor rows) h k = absurd (impossible h)
-cursor_to c (due.Next r) (got.Cursor rows) h k = absurd (impossible h)
-cursor_to c (due.CloseRows r) (got.Cursor rows) h k = absurd (impossible h)
-cursor_to c (due.CloseStmt handle) (got.Cursor rows) h k = absurd (impossible h)
 cursor_to c _ (got.Cursor rows) h k = absurd (impossible h)
 cursor_to c d _ h k = absurd (impossible k)
 
 handle_to : (c : Course) (d : Due) (g : Got) → may_get c d g ≡ true → is_some (given_handle g) ≡ true → is_prepare d ≡ true
 handle_to c due.Prepare (got.Prepared handle inputs) h k = refl
-handle_to c due.Text (got.Prepared handle inputs) h k = absurd (impossible h)
-handle_to c (due.Handle n) (got.Prepared handle inputs) h k = absurd (impossible h)
-handle_to c (due.Next r) (got.Prepared handle inputs) h k = absurd (impossible h)
-handle_to c (due.CloseRows r) (got.Prepared handle inputs) h k = absurd (impossible h)
-handle_to c (due.CloseStmt n) (got.Prepared handle inputs) h k = absurd (impossible h)
 handle_to c _ (got.Prepared handle inputs) h k = absurd (impossible h)
 handle_to c d _ h k = absurd (impossible k)
 

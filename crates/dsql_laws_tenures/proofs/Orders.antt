@@ -69,10 +69,6 @@ next_behind rows (y ∷ made) over free =
     (first y.0 y.1 p.0 q.0) (next_behind rows made p.1 q.1)
   where
     first : (d : Due) (g : Got) → ends_rows (d, g) ≡ false → is_free d ≡ false → nat_lt (place d) 4 || true && is_fetch d ≡ true
-    first due.Text g e f = refl
-    first due.Prepare g e f = refl
-    first (due.Handle handle) g e f = refl
-    first (due.Next r) g e f = refl
     first (due.CloseRows r) g e f = absurd cc
     first (due.CloseStmt handle) g e f = absurd cc
     first _ g e f = refl
@@ -88,11 +84,6 @@ at_text (x ∷ made) low some order =
   where
     text : (d : Due) → nat_le (place d) 1 ≡ true → nat_lt 0 (place d) ≡ true → d ≡ due.Text
     text due.Text h k = refl
-    text due.Prepare h k = absurd cc
-    text (due.Handle handle) h k = absurd cc
-    text (due.Next rows) h k = absurd cc
-    text (due.CloseRows rows) h k = absurd cc
-    text (due.CloseStmt handle) h k = absurd cc
     text _ h k = absurd cc
 
     not_lower : (m : ℕ) → nat_lt 0 m ≡ true → nat_lt m 1 || false ≡ true → ⊥

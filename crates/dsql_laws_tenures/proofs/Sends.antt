@@ -79,14 +79,7 @@ text_sends can text params aims.Execute made bad (Exec (Text other) others) h = 
 text_sends can text params aims.ReadOne made bad (Query (Text other) others) h = tt
 text_sends can text params aims.HandOut made bad (Query (Text other) others) h = tt
 text_sends can text params aims.Ping made bad (Query (Text other) others) h = tt
-text_sends can text params aims.Execute made bad (Exec (Handle handle) others) h = absurd cc
-text_sends can text params aims.ReadOne made bad (Query (Handle handle) others) h = absurd cc
-text_sends can text params aims.HandOut made bad (Query (Handle handle) others) h = absurd cc
-text_sends can text params aims.Ping made bad (Query (Handle handle) others) h = absurd cc
-text_sends can text params aims.Execute made bad _ h = absurd cc
-text_sends can text params aims.ReadOne made bad _ h = absurd cc
-text_sends can text params aims.HandOut made bad _ h = absurd cc
-text_sends can text params aims.Ping made bad _ h = absurd cc
+text_sends can text params _ made bad _ h = absurd cc
 
 handle_is : (made : List Exchange) (handle other : ℕ) (b : Bool) → (handle == other) && b ≡ true → has_handle made handle ≡ true → has_handle made other ≡ true
 handle_is made handle other b h had = let same : handle ≡ other = same_number handle other (first_of (handle == other) b h) in rw same at had
@@ -97,14 +90,7 @@ handle_sends can text params aims.Execute handle made bad (Exec (Handle other) o
 handle_sends can text params aims.ReadOne handle made bad (Query (Handle other) others) h had = handle_is made handle other (same_params params others) h had
 handle_sends can text params aims.HandOut handle made bad (Query (Handle other) others) h had = handle_is made handle other (same_params params others) h had
 handle_sends can text params aims.Ping handle made bad (Query (Handle other) others) h had = handle_is made handle other (same_params params others) h had
-handle_sends can text params aims.Execute handle made bad (Exec (Text other) others) h had = absurd cc
-handle_sends can text params aims.ReadOne handle made bad (Query (Text other) others) h had = absurd cc
-handle_sends can text params aims.HandOut handle made bad (Query (Text other) others) h had = absurd cc
-handle_sends can text params aims.Ping handle made bad (Query (Text other) others) h had = absurd cc
-handle_sends can text params aims.Execute handle made bad _ h had = absurd cc
-handle_sends can text params aims.ReadOne handle made bad _ h had = absurd cc
-handle_sends can text params aims.HandOut handle made bad _ h had = absurd cc
-handle_sends can text params aims.Ping handle made bad _ h had = absurd cc
+handle_sends can text params _ handle made bad _ h had = absurd cc
 
 prepare_sends : (text : List ℕ) (made : List Exchange) (bad : Bool) (q : DriverCall) → is_due (Some (Prepare text)) q ≡ true → Sends made bad q
 prepare_sends text made bad (Prepare other) h = tt

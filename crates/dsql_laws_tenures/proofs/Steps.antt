@@ -175,20 +175,10 @@ first_names c can args p found made (s ∷ left) it low k =
 -- The steps that are left have a higher place than the last exchange.
 behind_exec : (d : Due) → list_all (λ s. nat_lt (place d) (step_place s)) (behind_call (step_of d) (steps courses.Exec)) ≡ true
 behind_exec due.Text = refl
-behind_exec due.Prepare = refl
-behind_exec (due.Handle handle) = refl
-behind_exec (due.Next rows) = refl
-behind_exec (due.CloseRows rows) = refl
-behind_exec (due.CloseStmt handle) = refl
 behind_exec _ = refl
 
 behind_one : (d : Due) → list_all (λ s. nat_lt (place d) (step_place s)) (behind_call (step_of d) (steps courses.One)) ≡ true
 behind_one due.Text = refl
-behind_one due.Prepare = refl
-behind_one (due.Handle handle) = refl
-behind_one (due.Next rows) = refl
-behind_one (due.CloseRows rows) = refl
-behind_one (due.CloseStmt handle) = refl
 behind_one _ = refl
 
 pub left_behind : (c : Course) (d : Due) → TextCourse c → list_all (λ s. nat_lt (place d) (step_place s)) (behind_call (step_of d) (steps c)) ≡ true
@@ -212,10 +202,6 @@ less m n h = by_test (nat_lt m n) refl h
 
 -- What comes before the last exchange has no higher place.
 below : (d q : Due) → nat_lt (place q) (place d) || is_fetch d && is_fetch q ≡ true → nat_le (place q) (place d) ≡ true
-below (due.Next rows) (due.Next other) h = refl
-below (due.Next rows) due.Text h = refl
-below (due.Next rows) due.Prepare h = refl
-below (due.Next rows) (due.Handle handle) h = refl
 below (due.Next rows) (due.CloseRows other) h = absurd cc
 below (due.Next rows) (due.CloseStmt handle) h = absurd cc
 below (due.Next rows) _ h = refl

@@ -11,7 +11,7 @@ use Rattle.dsql_history.specs.driver.Fits.{fits_of, is_done, is_invalid, is_memo
 use Rattle.dsql_history.specs.driver.Kinds.{is_bad, is_begin, is_ping, is_reset, is_shut, is_valid}
 use Rattle.dsql_history.specs.journal.declared.entry.Entry.{Entry}
 use Rattle.dsql_history.specs.journal.declared.entry.Owner.{Owner}
-use Rattle.dsql_history.specs.journal.declared.entry.Owner.TheVariants.{Call, Tx, Pin, House}
+use Rattle.dsql_history.specs.journal.declared.entry.Owner.TheVariants.{Call}
 use Rattle.dsql_history.specs.journal.Entries.{connect_entry, shut_entry}
 use Rattle.dsql_history.specs.journal.Kinds.{◌⇒◌, is_call, is_tx_number}
 use Rattle.dsql_history.specs.journal.Readers.{LiveHandle, begins, begun, cursors, handles, has, is_empty, last_tenure, of_tenure, of_transaction, was_shut, went_bad, went_invalid}
@@ -101,9 +101,7 @@ call_begins (Call n) J e is body begun = by_call e.call e.answer begun body.kind
     by_call : (q : DriverCall) (a : DriverAnswer) → is_begin q && is_done a ≡ true → is_ping q || nat_lt 0 (place q) ≡ true → ⊥
     by_call (Begin level read_only) a h kind = impossible kind
     by_call _ a h kind = absurd cc
-call_begins (Tx n) J e is body begun = absurd cc
-call_begins (Pin n) J e is body begun = absurd cc
-call_begins House J e is body begun = absurd cc
+call_begins _ J e is body begun = absurd cc
 
 begin_body : (q : DriverCall) (a : DriverAnswer) → is_begin q && is_done a ≡ true → not (is_reset q || is_valid q) ≡ true
 begin_body (Begin level read_only) a h = refl
@@ -144,9 +142,7 @@ none_both f (x ∷ xs) all none =
 
 no_owner : (o : Owner) (k : ℕ) → is_tx_number k o ≡ true → is_call o ≡ true → ⊥
 no_owner (Call n) k tx call = absurd cc
-no_owner (Tx n) k tx call = absurd cc
-no_owner (Pin n) k tx call = absurd cc
-no_owner House k tx call = absurd cc
+no_owner _ k tx call = absurd cc
 
 none_kept : (k t : ℕ) (live : List LiveHandle) → list_all (λ h. h.tenure == t) live ≡ true → list_all (λ h. (h.tenure == t) ⇒ is_tx_number k h.owner) live ≡ true
     → list_all (λ h. (h.tenure == t) ⇒ is_call h.owner) live ≡ true → live ≡ []

@@ -343,15 +343,7 @@ sent_when s (Next rows) h = refl
 sent_when s (CloseRows rows) h = refl
 sent_when s (CloseStmt handle) h = refl
 sent_when s Reset h = refl
-sent_when Start q h = absurd cc
-sent_when WasReset q h = absurd cc
-sent_when WasSkipped q h = absurd cc
-sent_when (WasPrepared handle) q h = absurd cc
-sent_when (HasRows own rows) q h = absurd cc
-sent_when (HasRead own rows over) q h = absurd cc
-sent_when (WasRun handle) q h = absurd cc
-sent_when WasDone q h = absurd cc
-sent_when s q h = absurd cc
+sent_when _ q h = absurd cc
 
 -- If a tenure is known at its step, it is known at the next step after what such a call sends next.
 pub so_far-next : (c t n m : ℕ) (s : Step) (q : DriverCall) (a : DriverAnswer) (L : List Entry) → SoFar t n s L → goes s q ≡ true → SoFar t n (step_after s q a) (sent_entry c t n m q a ∷ L)

@@ -6,7 +6,7 @@ use Rattle.dsql_history_work.specs.value.declared.value.Param.{Param}
 use Rattle.dsql_history_work.specs.driver.Fits.{fits_of, is_memory}
 use Rattle.dsql_history_work.specs.driver.declared.caps.Caps.{Caps}
 use Rattle.dsql_history_work.specs.driver.declared.call.DriverCall.{DriverCall}
-use Rattle.dsql_history_work.specs.driver.declared.call.DriverCall.TheVariants.{Valid, Ping, Query, Next, CloseRows, CloseStmt}
+use Rattle.dsql_history_work.specs.driver.declared.call.DriverCall.TheVariants.{Valid, Query, Next, CloseRows, CloseStmt}
 use Rattle.dsql_history_work.specs.driver.declared.answer.DriverAnswer.{DriverAnswer}
 use Rattle.dsql_history_work.specs.driver.declared.answer.DriverAnswer.TheVariants.{Cursor, Bad}
 use Rattle.dsql_history_work.specs.course.declared.course.Wish.{Wish}
@@ -43,11 +43,9 @@ SentOver Valid w over = over ≡ true
 SentOver _ w over = ⊥
 
 of_open : (w : Wish) (rows : ℕ) (q : DriverCall) (over : Bool) → over ≡ false → is_due (open_sends w rows) q ≡ true → SentOver q w over
-of_open wishes.Nothing rows q over o h = absurd cc
 of_open wishes.Fetch rows (Next other) over o h = (refl, o)
-of_open wishes.Fetch rows _ over o h = absurd cc
 of_open wishes.Close rows (CloseRows other) over o h = inr refl
-of_open wishes.Close rows _ over o h = absurd cc
+of_open _ rows _ over o h = absurd cc
 
 of_over : (w : Wish) (rows : ℕ) (q : DriverCall) (over : Bool) → over ≡ true → is_due (Some (CloseRows rows)) q ≡ true → SentOver q w over
 of_over w rows (CloseRows other) over o h = inl o
@@ -157,11 +155,7 @@ held_body : (can : Caps) (text : List ℕ) (params : List Param) (aim : Aim) (w 
 held_body can text params aims.HandOut w (HasRows own cursor) made rows h m holds wanted = rw (sends_open can text params w own cursor (due.Next cursor) made m) (some_open w cursor wanted)
 held_body can text params aims.HandOut w (HasRead own cursor false) made rows h m holds wanted =
     rw (sends_open can text params w own cursor (due.CloseRows cursor) made m) (some_open w cursor wanted)
-held_body can text params aims.HandOut w (HasRead own cursor true) made rows h m holds wanted = absurd cc
-held_body can text params aims.HandOut w s made rows h m holds wanted = absurd cc
-held_body can text params aims.Execute w s made rows h m holds wanted = absurd cc
-held_body can text params aims.ReadOne w s made rows h m holds wanted = absurd cc
-held_body can text params aims.Ping w s made rows h m holds wanted = absurd cc
+held_body can text params _ w _ made rows h m holds wanted = absurd cc
 
 ended_holding : (s : Step) (q : DriverCall) (a : DriverAnswer) → is_bad a || is_valid q ≡ true → is_holding (step_after s q a) ≡ true → ⊥
 ended_holding s q Bad h holds = cc

@@ -26,7 +26,7 @@ use Rattle.dsql_history_work.specs.Journals.{ends_invalid}
 use Rattle.dsql_history_work.specs.Exchanges.{exchanges, step_of, with_exchange}
 use Rattle.dsql_history_work.specs.Line.{Asked, line_after, body_after, is_due}
 use Rattle.dsql_laws_work.proofs.KeptRows.{keeps_rows}
-use Rattle.dsql_laws_work.proofs.CallLines.{Step, Start, WasReset, WasSkipped, WasPrepared, HasRows, HasRead, WasRun, WasDone, WasTested, WasDropped, IsOther, step, step_after, goes, SoFar, sent_entry, so_far-start, is_sent}
+use Rattle.dsql_laws_work.proofs.CallLines.{Step, Start, WasPrepared, HasRows, HasRead, WasRun, WasDropped, IsOther, step, step_after, goes, SoFar, sent_entry, so_far-start, is_sent}
 use Rattle.dsql_laws_work.proofs.CallSteps.{so_far-next}
 use Rattle.dsql_laws_work.proofs.ServedCalls.{Served, served_of, served_sent}
 use Rattle.dsql_laws_work.proofs.CallSends.{Sends}
@@ -114,17 +114,13 @@ pub record NoneLeft (L : List Entry) : Type 0 where
   pub cursors : cursors L ≡ []
 
 clean_left : (t n : ℕ) (s : Step) (L : List Entry) → is_clean s ≡ true → (s ≡ WasDropped → ⊥) → SoFar t n s L → NoneLeft L
-clean_left t n Start L c d so = record { handles = so.live; cursors = so.open_rows }
-clean_left t n WasReset L c d so = record { handles = so.live; cursors = so.open_rows }
-clean_left t n WasSkipped L c d so = record { handles = so.live; cursors = so.open_rows }
-clean_left t n WasDone L c d so = record { handles = so.live; cursors = so.open_rows }
-clean_left t n WasTested L c d so = record { handles = so.live; cursors = so.open_rows }
 clean_left t n WasDropped L c d so = absurd (d refl)
 clean_left t n IsOther L c d so = absurd so.live
 clean_left t n (WasPrepared handle) L c d so = absurd cc
 clean_left t n (HasRows own rows) L c d so = absurd cc
 clean_left t n (HasRead own rows over) L c d so = absurd cc
 clean_left t n (WasRun handle) L c d so = absurd cc
+clean_left t n _ L c d so = record { handles = so.live; cursors = so.open_rows }
 
 ended_not : (s : Step) → is_ended s ≡ false → s ≡ WasDropped → ⊥
 ended_not s h is = let k = rw is at h in cc

@@ -46,9 +46,6 @@ not_pinged h = cc
 -- A call whose first driver call is neither a Ping nor a test has a text.
 first_has_text : (can : Caps) (text : List ℕ) (params : List Param) (aim : Aim) (w : Wish) (q : DriverCall) → is_ping q || is_valid q ≡ false
     → is_due (body_after can (asking text params aim) w []) q ≡ true → has_text aim ≡ true
-first_has_text can text params aims.Execute w q other h = refl
-first_has_text can text params aims.ReadOne w q other h = refl
-first_has_text can text params aims.HandOut w q other h = refl
 first_has_text can text params aims.Ping w q other h =
     by_can can.pinger q other (rw (body_before can (asking text params aims.Ping) w [] refl, first_of can text params aims.Ping) at h)
   where
@@ -61,6 +58,7 @@ first_has_text can text params aims.Ping w q other h =
     by_can true Ping o k = absurd cc
     by_can true _ o k = absurd cc
     by_can false r o k = absurd (not_test can.validator r o k)
+first_has_text can text params _ w q other h = refl
 
 -- A text is run at once only if the driver has the fast way.
 text_first : (can : Caps) (aim : Aim) → has_text aim ≡ true → first_call aim can ≡ cond (has_fast_way (course_of aim) can) due.Text due.Prepare
