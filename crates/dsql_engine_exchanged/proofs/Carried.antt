@@ -16,14 +16,14 @@ use Rattle.dsql_history.specs.journal.declared.entry.Entry.{Entry}
 use Rattle.dsql_history.specs.tx.declared.end.TxEnd.{TxEnd}
 use Rattle.dsql_history.specs.tx.declared.end.TxEnd.TheVariants as ends
 use Rattle.dsql_history.specs.works.Exchanges.{exchanges}
-use Rattle.dsql_history.specs.works.Line.{Asked, course_of, handed, test_of}
+use Rattle.dsql_history.specs.works.Line.{Asked, course_of, handed, test_of, body_with, found}
 use Rattle.dsql_engine_exchanged.specs.Exchanged.{ends_line}
 use Rattle.dsql_engine_exchanged.specs.Filled.{Carries}
 use Rattle.dsql_engine_exchanged.proofs.DueCarried.{test_carries, step_carries, over_carries}
 use Rattle.dsql_history.specs.declared.event.Event.{Event}
 use Rattle.dsql_history.specs.Readers.Course.{caps}
 use Rattle.dsql_history.specs.Rules.Ending.{ended_by_call, end_after}
-use Rattle.dsql_history.specs.Rules.Sent.{begin_line, body_with, found, inner_after, untested}
+use Rattle.dsql_history.specs.Rules.Sent.{begin_line, inner_after, untested}
 
 body_carries : (can : Caps) (bad : Bool) (asked : Asked) (wish : Wish) (made : List Exchange) (rows : Option ℕ) → IfSome (body_with can bad asked wish made rows) (Carries asked)
 body_carries can bad asked wish made None = step_carries can asked (comes_next (course_of asked.aim) can (length asked.params) (found bad) made)

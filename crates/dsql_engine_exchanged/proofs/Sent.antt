@@ -27,18 +27,18 @@ exchanged_made (e ∷ earlier) = ap (λ made. with_exchange (step_of e.call) e.a
 
 pub told_as_heard : (can : Caps) (reset_due : Bool) (asked : Asked) (wish : Wish) (entries : List Entry) → line_told can reset_due asked wish (exchanged_in entries) ≡ line_after can reset_due asked wish entries
 told_as_heard can reset_due asked wish [] = refl
-told_as_heard can reset_due asked wish (e ∷ earlier) = by_end (ends_line e) (ap (λ made. body_after can asked wish made) (exchanged_made (e ∷ earlier)))
+told_as_heard can reset_due asked wish (e ∷ earlier) = by_end (ends_line e) (ap (λ made. body_after can false asked wish made) (exchanged_made (e ∷ earlier)))
   where
-    by_end : (b : Bool) → body_after can asked wish (exchanged_in (e ∷ earlier)).made ≡ body_after can asked wish (exchanges (e ∷ earlier))
-        → line_at_stage can reset_due asked wish (exchanged_in (e ∷ earlier)).made (cond b Over Going) ≡ cond b None (body_after can asked wish (exchanges (e ∷ earlier)))
+    by_end : (b : Bool) → body_after can false asked wish (exchanged_in (e ∷ earlier)).made ≡ body_after can false asked wish (exchanges (e ∷ earlier))
+        → line_at_stage can reset_due asked wish (exchanged_in (e ∷ earlier)).made (cond b Over Going) ≡ cond b None (body_after can false asked wish (exchanges (e ∷ earlier)))
     by_end true same = refl
     by_end false same = same
 
-body_with_step : (can : Caps) (asked : Asked) (wish : Wish) (made : List Exchange) (rows : Option ℕ) → body_with can asked wish made rows ≡ sent_over can asked (step_with can asked.aim (length asked.params) wish made rows)
+body_with_step : (can : Caps) (asked : Asked) (wish : Wish) (made : List Exchange) (rows : Option ℕ) → body_with can false asked wish made rows ≡ sent_over can asked (step_with can asked.aim (length asked.params) wish made rows)
 body_with_step can asked wish made None = refl
 body_with_step can asked wish made (Some rows) = refl
 
-body_by_step : (can : Caps) (asked : Asked) (wish : Wish) (made : List Exchange) → body_after can asked wish made ≡ sent_over can asked (step_after can asked.aim (length asked.params) wish made)
+body_by_step : (can : Caps) (asked : Asked) (wish : Wish) (made : List Exchange) → body_after can false asked wish made ≡ sent_over can asked (step_after can asked.aim (length asked.params) wish made)
 body_by_step can asked wish made = body_with_step can asked wish made (handed asked.aim made)
 
 test_filled : (can : Caps) (asked : Asked) → option_map (filled asked) (cond can.validator (Some bare.Valid) None) ≡ test_of can
@@ -58,7 +58,7 @@ any_filled : (can : Caps) (asked : Asked) (call : Option Due) → option_map (fi
 any_filled can asked None = refl
 any_filled can asked (Some call) = step_filled can asked call
 
-body_filled : (can : Caps) (asked : Asked) (wish : Wish) (made : List Exchange) → option_map (filled asked) (bare_step can (step_after can asked.aim (length asked.params) wish made)) ≡ body_after can asked wish made
+body_filled : (can : Caps) (asked : Asked) (wish : Wish) (made : List Exchange) → option_map (filled asked) (bare_step can (step_after can asked.aim (length asked.params) wish made)) ≡ body_after can false asked wish made
 body_filled can asked wish made = any_filled can asked (step_after can asked.aim (length asked.params) wish made) ∙ sym (body_by_step can asked wish made)
 
 line_filled : (can : Caps) (reset_due : Bool) (asked : Asked) (wish : Wish) (made : List Exchange) (stage : Stage)

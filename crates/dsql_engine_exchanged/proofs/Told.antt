@@ -9,10 +9,10 @@ use Rattle.dsql_history.specs.course.Made.{Exchange}
 use Rattle.dsql_history.specs.journal.declared.entry.Entry.{Entry}
 use Rattle.dsql_history.specs.works.declared.work.Aim.{Aim}
 use Rattle.dsql_history.specs.works.Exchanges.{exchanges, step_of, with_exchange}
-use Rattle.dsql_history.specs.works.Line.{Asked, handed, sent_as, sent_over}
+use Rattle.dsql_history.specs.works.Line.{Asked, handed, sent_as, sent_over, body_with, body_after}
 use Rattle.dsql_engine_exchanged.specs.declared.exchanged.Exchanged.{Exchanged}
 use Rattle.dsql_engine_exchanged.specs.Exchanged.{exchanged_in}
-use Rattle.dsql_history.specs.Rules.Sent.{untested, body_with, body_after, inner_after}
+use Rattle.dsql_history.specs.Rules.Sent.{untested, inner_after}
 use Rattle.dsql_engine_exchanged.specs.declared.bare.BareCall.{BareCall}
 use Rattle.dsql_engine_exchanged.specs.Filled.{filled}
 use Rattle.dsql_engine_exchanged.specs.Inside.{inside_told, step_with, step_inside, bare_of, bare_step, bare_inside}

@@ -24,10 +24,10 @@ use Rattle.dsql_history.specs.journal.declared.entry.Entry.{Entry}
 use Rattle.dsql_history.specs.works.declared.work.Aim.{Aim}
 use Rattle.dsql_history.specs.works.declared.work.Aim.TheVariants as aims
 use Rattle.dsql_history.specs.works.Exchanges.{exchanges, got_of, step_of, with_exchange}
-use Rattle.dsql_history.specs.works.Line.{Asked, course_of, handed, run_for, sent_as, sent_over}
+use Rattle.dsql_history.specs.works.Line.{Asked, course_of, handed, run_for, sent_as, sent_over, body_after, body_with, found}
 use Rattle.dsql_history.specs.Readers.Lines.{closes_cursor, closes_handle}
 use Rattle.dsql_history.specs.Rules.Line.{is_due}
-use Rattle.dsql_history.specs.Rules.Sent.{body_after, body_with, found, untested}
+use Rattle.dsql_history.specs.Rules.Sent.{untested}
 use Rattle.dsql_engine_exchanged.specs.Heard.{is_cursor_unclosed, is_handle_unclosed, none_given_again}
 use Rattle.dsql_engine_exchanged.specs.Turns.{IsNext, ComesInTurn}
 

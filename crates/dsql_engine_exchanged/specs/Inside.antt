@@ -10,9 +10,9 @@ use Rattle.dsql_history.specs.course.Made.{Exchange}
 use Rattle.dsql_history.specs.course.Line.{comes_next}
 use Rattle.dsql_history.specs.course.Rows.{rows_next_of}
 use Rattle.dsql_history.specs.works.declared.work.Aim.{Aim}
-use Rattle.dsql_history.specs.works.Line.{Asked, course_of, handed}
+use Rattle.dsql_history.specs.works.Line.{Asked, course_of, handed, found, body_after}
 use Rattle.dsql_engine_exchanged.specs.declared.exchanged.Exchanged.{Exchanged}
-use Rattle.dsql_history.specs.Rules.Sent.{found, untested, body_after}
+use Rattle.dsql_history.specs.Rules.Sent.{untested}
 use Rattle.dsql_engine_exchanged.specs.declared.bare.BareCall.{BareCall}
 use Rattle.dsql_engine_exchanged.specs.declared.bare.BareCall.TheVariants as bare
 

@@ -1,5 +1,5 @@
 -- Defines the next driver call on a connection, given what was heard there since it was lent.
-use Rattle.std.specs.Prelude.{ℕ, Bool, cond, List, Option, Some, None}
+use Rattle.std.specs.Prelude.{ℕ, Bool, false, cond, List, Option, Some, None}
 use Rattle.dsql_history.specs.driver.declared.caps.Caps.{Caps}
 use Rattle.dsql_history.specs.driver.declared.call.DriverCall.{DriverCall}
 use Rattle.dsql_history.specs.driver.declared.call.DriverCall.TheVariants.{Reset}
@@ -10,7 +10,7 @@ use Rattle.dsql_history.specs.course.Made.{Exchange}
 use Rattle.dsql_history.specs.course.Line.{comes_next}
 use Rattle.dsql_history.specs.course.Rows.{rows_next}
 use Rattle.dsql_history.specs.works.declared.work.Aim.{Aim}
-use Rattle.dsql_history.specs.works.Line.{Asked, going_on, course_of, handed, body_after}
+use Rattle.dsql_history.specs.works.Line.{Asked, found, course_of, handed, body_after}
 use Rattle.dsql_engine_exchanged.specs.declared.bare.BareCall.{BareCall}
 use Rattle.dsql_engine_exchanged.specs.declared.bare.BareCall.TheVariants as bare
 use Rattle.dsql_engine_exchanged.specs.declared.exchanged.Exchanged.{Exchanged}
@@ -19,8 +19,8 @@ use Rattle.dsql_engine_exchanged.specs.declared.exchanged.Stage.TheVariants.{Fre
 
 -- Returns the next driver call at this stage, given what was exchanged.
 abbrev pub line_at_stage : Caps → Bool → Asked → Wish → List Exchange → Stage → Option DriverCall
-line_at_stage can reset_due asked wish made Fresh = cond reset_due (Some Reset) (body_after can asked wish made)
-line_at_stage can reset_due asked wish made Going = body_after can asked wish made
+line_at_stage can reset_due asked wish made Fresh = cond reset_due (Some Reset) (body_after can false asked wish made)
+line_at_stage can reset_due asked wish made Going = body_after can false asked wish made
 line_at_stage can reset_due asked wish made Over = None
 
 -- Returns the next driver call, given what was heard.
@@ -30,7 +30,7 @@ line_told can reset_due asked wish it = line_at_stage can reset_due asked wish i
 -- Returns the next call of the course with this many parameters. After rows were handed out, it returns the
 -- next call over them, or `None` if they stay as they are.
 abbrev pub step_with : Caps → Aim → ℕ → Wish → List Exchange → Option ℕ → Option Due
-step_with can aim count wish made None = Some (comes_next (course_of aim) can count going_on made)
+step_with can aim count wish made None = Some (comes_next (course_of aim) can count (found false) made)
 step_with can aim count wish made (Some rows) = rows_next wish can count made rows
 
 abbrev pub step_after : Caps → Aim → ℕ → Wish → List Exchange → Option Due

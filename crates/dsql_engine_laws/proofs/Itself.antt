@@ -29,7 +29,7 @@ use Rattle.dsql_engine_hearing.specs.works.declared.work.Aim.{Aim}
 use Rattle.dsql_engine_hearing.specs.works.declared.work.Aim.TheVariants as aims
 use Rattle.dsql_engine_hearing.specs.works.Exchanges.{exchanges}
 use Rattle.dsql_engine_hearing.specs.works.Line as plain
-use Rattle.dsql_engine_hearing.specs.works.Line.{Asked, handed, run_for, sent_as, sent_over, test_of}
+use Rattle.dsql_engine_hearing.specs.works.Line.{Asked, handed, run_for, sent_as, sent_over, test_of, body_with, found}
 use Rattle.dsql_engine_hearing.specs.works.Same.{same_truth}
 use Rattle.dsql_engine_hearing.proofs.laws.Tests.{same_itself, together}
 use Rattle.dsql_engine_hearing.proofs.laws_calls.Itself.{level_itself, truth_itself}
@@ -50,7 +50,7 @@ use Rattle.dsql_engine_hearing.specs.history.Readers.Transactions.{is_begun, tx_
 use Rattle.dsql_engine_hearing.specs.history.Readers.Works.{borrower, hands_out_in, scope, work, works}
 use Rattle.dsql_engine_hearing.specs.history.Rules.Ending.{end_after, ended_by_call, ending, ending_at, ending_with, first_closing}
 use Rattle.dsql_engine_hearing.specs.history.Rules.Line.{is_due, tidying}
-use Rattle.dsql_engine_hearing.specs.history.Rules.Sent.{asked_by, begin_after, begin_line, body_with, closing, found, is_reset_due, line_at, line_of, line_with, untested}
+use Rattle.dsql_engine_hearing.specs.history.Rules.Sent.{asked_by, begin_after, begin_line, closing, is_reset_due, line_at, line_of, line_with, untested}
 use Rattle.dsql_engine_hearing.specs.history.Legal.{Lawful}
 use Rattle.dsql_engine_hearing.proofs.lines.OverRows.{to_tidy}
 
@@ -92,15 +92,15 @@ over_opens : (can : Caps) (asked : Asked) (d : Option Due) → opens_none (sent_
 over_opens can asked None = refl
 over_opens can asked (Some d) = sent_opens can asked d
 
-body_opens : (can : Caps) (asked : Asked) (w : Wish) (made : List Exchange) (o : Option ℕ) → opens_none (plain.body_with can asked w made o) ≡ true
-body_opens can asked w made None = sent_opens can asked (comes_next (plain.course_of asked.aim) can (length asked.params) plain.going_on made)
+body_opens : (can : Caps) (asked : Asked) (w : Wish) (made : List Exchange) (o : Option ℕ) → opens_none (plain.body_with can false asked w made o) ≡ true
+body_opens can asked w made None = sent_opens can asked (comes_next (plain.course_of asked.aim) can (length asked.params) (found false) made)
 body_opens can asked w made (Some rows) = over_opens can asked (rows_next w can (length asked.params) made rows)
 
 call_opens : (can : Caps) (reset : Bool) (asked : Asked) (w : Wish) (L : List Entry) → opens_none (plain.line_after can reset asked w L) ≡ true
-call_opens can reset asked w [] = either reset (Some calls.Reset) (plain.body_after can asked w []) refl (body_opens can asked w [] (handed asked.aim []))
+call_opens can reset asked w [] = either reset (Some calls.Reset) (plain.body_after can false asked w []) refl (body_opens can asked w [] (handed asked.aim []))
 call_opens can reset asked w (e ∷ earlier) =
     let made = exchanges (e ∷ earlier) in
-    either (is_bad e.answer || is_valid e.call) None (plain.body_after can asked w made) refl (body_opens can asked w made (handed asked.aim made))
+    either (is_bad e.answer || is_valid e.call) None (plain.body_after can false asked w made) refl (body_opens can asked w made (handed asked.aim made))
 
 inner_opens : (can : Caps) (bad : Bool) (asked : Asked) (w : Wish) (made : List Exchange) (o : Option ℕ) → opens_none (body_with can bad asked w made o) ≡ true
 inner_opens can bad asked w made None = sent_opens can asked (comes_next (plain.course_of asked.aim) can (length asked.params) (found bad) made)

@@ -19,9 +19,8 @@ use Rattle.dsql_laws_calls.specs.works.declared.work.Aim.{Aim}
 use Rattle.dsql_laws_calls.specs.works.declared.work.Aim.TheVariants.{Execute, Ping}
 use Rattle.dsql_laws_calls.specs.works.Exchanges.{exchanges}
 use Rattle.dsql_laws_calls.specs.works.Line as plain
-use Rattle.dsql_laws_calls.specs.works.Line.{Asked, handed, line_after, sent_as, sent_over, test_of}
+use Rattle.dsql_laws_calls.specs.works.Line.{Asked, handed, line_after, sent_as, sent_over, test_of, body_with}
 use Rattle.dsql_engine_exchanged.specs.Filled.{carries_statement}
-use Rattle.dsql_laws_calls.specs.history.Rules.Sent.{body_with}
 
 -- Steps of a course that carry no statement.
 
@@ -120,7 +119,7 @@ inner_unstated can bad asked wish made (Some rows) h = next_unstated can bad ask
 inner_unstated can bad asked wish made None h = absurd cc
 
 -- On the database, what is sent over rows carries no statement.
-body_unstated : (can : Caps) (asked : Asked) (wish : Wish) (made : List Exchange) (rows : Option ℕ) → is_some rows ≡ true → is_unstated (plain.body_with can asked wish made rows) ≡ true
+body_unstated : (can : Caps) (asked : Asked) (wish : Wish) (made : List Exchange) (rows : Option ℕ) → is_some rows ≡ true → is_unstated (plain.body_with can false asked wish made rows) ≡ true
 body_unstated can asked wish made (Some rows) h = next_unstated can false asked wish made rows
 body_unstated can asked wish made None h = absurd cc
 
@@ -135,4 +134,4 @@ pub line_unstated : (can : Caps) (reset_due : Bool) (asked : Asked) (wish : Wish
 line_unstated can reset_due asked wish [] h = absurd (nothing_handed asked h)
 line_unstated can reset_due asked wish (e ∷ earlier) h =
     let made = exchanges (e ∷ earlier) in
-    unstated_either (is_bad e.answer || is_valid e.call) None (plain.body_after can asked wish made) refl (body_unstated can asked wish made (handed asked.aim made) h)
+    unstated_either (is_bad e.answer || is_valid e.call) None (plain.body_after can false asked wish made) refl (body_unstated can asked wish made (handed asked.aim made) h)

@@ -14,7 +14,7 @@ use Rattle.dsql_course.specs.declared.call.Due.TheVariants as course
 use Rattle.dsql_course.specs.declared.course.Wish.{Wish}
 use Rattle.dsql_course.specs.Made.{Exchange, own_cursor}
 use Rattle.dsql_course.specs.Line.{Found, comes_next}
-use Rattle.dsql_course.specs.Rows.{rows_next}
+use Rattle.dsql_course.specs.Rows.{rows_next_of}
 use Rattle.dsql_tenure_journal.specs.declared.entry.Entry.{Entry}
 use Rattle.dsql_driver.specs.Kinds.{is_bad, is_valid}
 use Rattle.dsql_history_work.specs.declared.work.Aim.{Aim}
@@ -48,10 +48,10 @@ run_for _ input params = Query input params
 abbrev pub run_of : Asked → Input → DriverCall
 run_of asked input = run_for asked.aim input asked.params
 
--- Returns what is known as a call is made that no token has stopped. On a connection that is known to be bad
--- nothing is due.
-abbrev pub going_on : Found
-going_on = record { stopped = false; bad = false }
+-- Returns what is known as a call is made that nothing has stopped, on a connection that is known to be bad or isn't.
+-- On one that is known to be bad nothing is due.
+abbrev pub found : Bool → Found
+found bad = record { stopped = false; bad = bad }
 
 -- Returns the driver call that makes this step of the course. The test of the connection comes at the end of
 -- the course.
@@ -75,22 +75,23 @@ abbrev pub sent_over : Caps → Asked → Option Due → Option DriverCall
 sent_over can asked None = None
 sent_over can asked (Some call) = sent_as can asked call
 
--- Returns the driver call that is sent next after these exchanges. The call's course gives it, or, after the
--- call has handed out rows, what is wanted of them.
-abbrev pub body_with : Caps → Asked → Wish → List Exchange → Option ℕ → Option DriverCall
-body_with can asked wish made None =
-    sent_as can asked (comes_next (course_of asked.aim) can (length asked.params) going_on made)
-body_with can asked wish made (Some rows) = sent_over can asked (rows_next wish can (length asked.params) made rows)
+-- Returns the driver call that is sent next after these exchanges, on a connection that is known to be bad or isn't.
+-- The call's course gives it, or, after the call has handed out rows, what is wanted of them.
+abbrev pub body_with : Caps → Bool → Asked → Wish → List Exchange → Option ℕ → Option DriverCall
+body_with can bad asked wish made None =
+    sent_as can asked (comes_next (course_of asked.aim) can (length asked.params) (found bad) made)
+body_with can bad asked wish made (Some rows) =
+    sent_over can asked (rows_next_of courses.Query bad wish can (length asked.params) made rows)
 
-abbrev pub body_after : Caps → Asked → Wish → List Exchange → Option DriverCall
-body_after can asked wish made = body_with can asked wish made (handed asked.aim made)
+abbrev pub body_after : Caps → Bool → Asked → Wish → List Exchange → Option DriverCall
+body_after can bad asked wish made = body_with can bad asked wish made (handed asked.aim made)
 
 -- Returns the driver call that is sent next after these entries of the tenure, newest first. Nothing comes
 -- after a Bad or a test.
 abbrev pub line_after : Caps → Bool → Asked → Wish → List Entry → Option DriverCall
-line_after can reset_due asked wish [] = cond reset_due (Some Reset) (body_after can asked wish [])
+line_after can reset_due asked wish [] = cond reset_due (Some Reset) (body_after can false asked wish [])
 line_after can reset_due asked wish (e ∷ earlier) =
-    cond (is_bad e.answer || is_valid e.call) None (body_after can asked wish (exchanges (e ∷ earlier)))
+    cond (is_bad e.answer || is_valid e.call) None (body_after can false asked wish (exchanges (e ∷ earlier)))
 
 -- Is true if the driver call is the one that is due.
 abbrev pub is_due : Option DriverCall → DriverCall → Bool

@@ -72,16 +72,16 @@ plain_due d q h k = k
 
 -- If a row may be fetched, its rows may be closed as well.
 
-same_wish : (can : Caps) (asked : Asked) (made : List Exchange) → own_cursor made ≡ None → is_some (body_after can asked wishes.Fetch made) ≡ true → is_some (body_after can asked wishes.Close made) ≡ true
+same_wish : (can : Caps) (asked : Asked) (made : List Exchange) → own_cursor made ≡ None → is_some (body_after can false asked wishes.Fetch made) ≡ true → is_some (body_after can false asked wishes.Close made) ≡ true
 same_wish can asked made none h = ap (λ d. is_some d) (body_before can asked wishes.Close made none ∙ sym (body_before can asked wishes.Fetch made none)) ∙ h
 
 rows_close : (can : Caps) (text : List ℕ) (params : List Param) (aim : Aim) (own : Option ℕ) (rows : ℕ) (over : Bool) (following : Due) (made : List Exchange) → MadeRows can (asking text params aim) own rows over following made
-    → is_some (body_after can (asking text params aim) wishes.Fetch made) ≡ true → is_some (body_after can (asking text params aim) wishes.Close made) ≡ true
+    → is_some (body_after can false (asking text params aim) wishes.Fetch made) ≡ true → is_some (body_after can false (asking text params aim) wishes.Close made) ≡ true
 rows_close can text params aims.Execute own rows over following made m h = let k = m.reads in absurd cc
 rows_close can text params aims.Ping own rows over following made m h = let k = m.reads in absurd cc
 rows_close can text params aims.ReadOne own rows over following made m h = h
 rows_close can text params aims.HandOut own rows over following made m h =
-    ap (λ o. is_some (body_with can (asking text params aims.HandOut) wishes.Close made o)) m.cursor
+    ap (λ o. is_some (body_with can false (asking text params aims.HandOut) wishes.Close made o)) m.cursor
     ∙ either (rows_are_over made)
   where
     closed : is_some (sent_as can (asking text params aims.HandOut) (closing_next can (length params) made)) ≡ true
@@ -92,7 +92,7 @@ rows_close can text params aims.HandOut own rows over following made m h =
     either false = closed
 
 body_close : (can : Caps) (text : List ℕ) (params : List Param) (aim : Aim) (s : Step) (made : List Exchange) → is_ended s ≡ false → MadeAt can (asking text params aim) s made
-    → is_some (body_after can (asking text params aim) wishes.Fetch made) ≡ true → is_some (body_after can (asking text params aim) wishes.Close made) ≡ true
+    → is_some (body_after can false (asking text params aim) wishes.Fetch made) ≡ true → is_some (body_after can false (asking text params aim) wishes.Close made) ≡ true
 body_close can text params aim WasSkipped made e m h = same_wish can (asking text params aim) made (ap own_cursor m.0) h
 body_close can text params aim (WasPrepared handle) made e m h = same_wish can (asking text params aim) made m.none h
 body_close can text params aim (HasRows own rows) made e m h = rows_close can text params aim own rows false (due.Next rows) made m h
@@ -107,11 +107,11 @@ body_close can text params aim _ made e m h = same_wish can (asking text params 
 pub fetch_closes : (can : Caps) (reset : Bool) (asked : Asked) (L : List Entry) → MadeAt can asked (step L) (exchanges L) → is_some (line_after can reset asked wishes.Fetch L) ≡ true → is_some (line_after can reset asked wishes.Close L) ≡ true
 fetch_closes can reset asked [] m h = by reset h
   where
-    by : (b : Bool) → is_some (cond b (Some Reset) (body_after can asked wishes.Fetch [])) ≡ true → is_some (cond b (Some Reset) (body_after can asked wishes.Close [])) ≡ true
+    by : (b : Bool) → is_some (cond b (Some Reset) (body_after can false asked wishes.Fetch [])) ≡ true → is_some (cond b (Some Reset) (body_after can false asked wishes.Close [])) ≡ true
     by true k = refl
     by false k = same_wish can asked [] refl k
 fetch_closes can reset asked (e ∷ earlier) m h = by (is_bad e.answer || is_valid e.call) refl h
   where
-    by : (b : Bool) → (is_bad e.answer || is_valid e.call) ≡ b → is_some (cond b None (body_after can asked wishes.Fetch (exchanges (e ∷ earlier)))) ≡ true → is_some (cond b None (body_after can asked wishes.Close (exchanges (e ∷ earlier)))) ≡ true
+    by : (b : Bool) → (is_bad e.answer || is_valid e.call) ≡ b → is_some (cond b None (body_after can false asked wishes.Fetch (exchanges (e ∷ earlier)))) ≡ true → is_some (cond b None (body_after can false asked wishes.Close (exchanges (e ∷ earlier)))) ≡ true
     by true is k = absurd cc
     by false is k = body_close can asked.text asked.params asked.aim (step (e ∷ earlier)) (exchanges (e ∷ earlier)) (ended_by (step earlier) e.call e.answer is) m k

@@ -48,12 +48,12 @@ next_by can reset asked w t (e ∷ J) going = by (e.tenure == t) refl
     by true same =
         let more : of_tenure t (e ∷ J) ≡ e ∷ of_tenure t J = ap (λ (b : Bool). cond b (e ∷ of_tenure t J) (of_tenure t J)) same in
         ap (λ L. line_after can reset asked w L) more
-        ∙ sym (ap (λ (b : Bool). cond b (cond (is_bad e.answer || is_valid e.call) None (body_after can asked w (exchanges (of_tenure t (e ∷ J))))) (first_sent can reset asked w (exchanges (of_tenure t (e ∷ J))))) same
-        ∙ ap (λ L. cond (is_bad e.answer || is_valid e.call) None (body_after can asked w (exchanges L))) more)
+        ∙ sym (ap (λ (b : Bool). cond b (cond (is_bad e.answer || is_valid e.call) None (body_after can false asked w (exchanges (of_tenure t (e ∷ J))))) (first_sent can reset asked w (exchanges (of_tenure t (e ∷ J))))) same
+        ∙ ap (λ L. cond (is_bad e.answer || is_valid e.call) None (body_after can false asked w (exchanges L))) more)
     by false other =
         let none : of_tenure t (e ∷ J) ≡ [] = no_entry (of_tenure t (e ∷ J)) (λ some. never (e.tenure == t) (ap (λ u. u == t) (going some) ∙ same_itself t) other) in
         ap (λ L. line_after can reset asked w L) none
-        ∙ sym (ap (λ (b : Bool). cond b (cond (is_bad e.answer || is_valid e.call) None (body_after can asked w (exchanges (of_tenure t (e ∷ J))))) (first_sent can reset asked w (exchanges (of_tenure t (e ∷ J))))) other
+        ∙ sym (ap (λ (b : Bool). cond b (cond (is_bad e.answer || is_valid e.call) None (body_after can false asked w (exchanges (of_tenure t (e ∷ J))))) (first_sent can reset asked w (exchanges (of_tenure t (e ∷ J))))) other
         ∙ ap (λ L. first_sent can reset asked w (exchanges L)) none)
       where
         never : (b : Bool) → b ≡ true → b ≡ false → ⊥

@@ -13,9 +13,9 @@ use Rattle.dsql_laws.specs.course.Steps.{Step, RunText, PrepareText, RunHandle, 
 use Rattle.dsql_laws.specs.course.Made.{Exchange, was_skipped, own_handle, own_cursor, or_else, has_fast_way, reads_one}
 use Rattle.dsql_laws.specs.course.Line.{lets_handle_go, wanted, when, run_with, or_then, first_wanted, steps_left}
 use Rattle.dsql_laws.specs.journal.Kinds.{is_number}
-use Rattle.dsql_laws.specs.works.Line.{Asked, sent_as}
+use Rattle.dsql_laws.specs.works.Line.{Asked, sent_as, found}
 use Rattle.dsql_laws.specs.history.Readers.Lines.{closes_cursor, has_cursor}
-use Rattle.dsql_laws.specs.history.Rules.Sent.{found, untested}
+use Rattle.dsql_laws.specs.history.Rules.Sent.{untested}
 
 -- Is true if this step of a course is sent as a driver call.
 abbrev pub sends : Caps → Asked → Due → Bool

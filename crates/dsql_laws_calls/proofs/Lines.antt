@@ -20,7 +20,7 @@ use Rattle.dsql_laws.specs.pool.declared.conn.Place.{Place}
 use Rattle.dsql_laws.specs.pool.declared.conn.Place.TheVariants.{Lent}
 use Rattle.dsql_laws.specs.works.Exchanges.{exchanges}
 use Rattle.dsql_laws.specs.works.Line as plain
-use Rattle.dsql_laws.specs.works.Line.{Asked, sent_over, handed}
+use Rattle.dsql_laws.specs.works.Line.{Asked, sent_over, handed, body_with}
 use Rattle.dsql_laws.proofs.Tests.{both, same_itself}
 use Rattle.dsql_laws.specs.history.declared.event.Event.{Event}
 use Rattle.dsql_laws.specs.history.declared.event.Event.TheVariants.{Run, Heard}
@@ -36,7 +36,7 @@ use Rattle.dsql_laws.specs.history.Readers.Works.{work, scope, borrower}
 use Rattle.dsql_laws.specs.history.Readers.Lines.{line_in}
 use Rattle.dsql_laws.specs.history.Rules.Course.{keeps_course, begins_with_run, ends_once}
 use Rattle.dsql_laws.specs.history.Rules.Line.{is_used, parts}
-use Rattle.dsql_laws.specs.history.Rules.Sent.{is_reset_due, asked_by, body_with, untested, inner_after, line_with, line_at, line_of}
+use Rattle.dsql_laws.specs.history.Rules.Sent.{is_reset_due, asked_by, untested, inner_after, line_with, line_at, line_of}
 use Rattle.dsql_laws.specs.history.Legal.{Allowed, Lawful}
 use Rattle.dsql_laws_calls.proofs.Owners.{at_home}
 use Rattle.dsql_laws_calls.proofs.Lent.{uses_stay}
@@ -113,7 +113,7 @@ over_closes : (can : Caps) (asked : Asked) (b : Bool) (close : Due) (rows : ℕ)
 over_closes can asked true close rows h = h
 over_closes can asked false close rows h = absurd cc
 
-body_closes : (can : Caps) (asked : Asked) (made : List Exchange) (o : Option ℕ) → is_some (plain.body_with can asked wishes.Nothing made o) ≡ true → is_some (plain.body_with can asked wishes.Close made o) ≡ true
+body_closes : (can : Caps) (asked : Asked) (made : List Exchange) (o : Option ℕ) → is_some (plain.body_with can false asked wishes.Nothing made o) ≡ true → is_some (plain.body_with can false asked wishes.Close made o) ≡ true
 body_closes can asked made None h = h
 body_closes can asked made (Some rows) h = over_closes can asked (rows_are_over made) (closing_of courses.Query false can (length asked.params) made) rows h
 
@@ -127,10 +127,10 @@ cond_closes false q c d h k = h k
 
 after_closes : (can : Caps) (reset : Bool) (asked : Asked) (L : List Entry) → is_some (plain.line_after can reset asked wishes.Nothing L) ≡ true → is_some (plain.line_after can reset asked wishes.Close L) ≡ true
 after_closes can reset asked [] h =
-    cond_closes reset (Some Reset) (plain.body_after can asked wishes.Nothing []) (plain.body_after can asked wishes.Close []) (body_closes can asked [] (handed asked.aim [])) h
+    cond_closes reset (Some Reset) (plain.body_after can false asked wishes.Nothing []) (plain.body_after can false asked wishes.Close []) (body_closes can asked [] (handed asked.aim [])) h
 after_closes can reset asked (e ∷ earlier) h =
     let made = exchanges (e ∷ earlier) in
-    cond_closes (is_bad e.answer || is_valid e.call) None (plain.body_after can asked wishes.Nothing made) (plain.body_after can asked wishes.Close made) (body_closes can asked made (handed asked.aim made)) h
+    cond_closes (is_bad e.answer || is_valid e.call) None (plain.body_after can false asked wishes.Nothing made) (plain.body_after can false asked wishes.Close made) (body_closes can asked made (handed asked.aim made)) h
 
 with_closes : (H : List Event) (n c : ℕ) (bad : Bool) (it : Work) (s : Scope) (L : List Entry) → is_some (line_with H n c bad wishes.Nothing it s L) ≡ true → is_some (line_with H n c bad wishes.Close it s L) ≡ true
 with_closes H n c bad (works_of.Begin label level read_only) s L h = h

@@ -25,7 +25,7 @@ use Rattle.dsql_laws.specs.works.declared.work.Aim.{Aim}
 use Rattle.dsql_laws.specs.works.declared.work.Aim.TheVariants as aims
 use Rattle.dsql_laws.specs.works.Exchanges.{exchanges}
 use Rattle.dsql_laws.specs.works.Line as plain
-use Rattle.dsql_laws.specs.works.Line.{Asked, test_of, run_for, sent_as, sent_over, handed}
+use Rattle.dsql_laws.specs.works.Line.{Asked, test_of, run_for, sent_as, sent_over, handed, found, body_with}
 use Rattle.dsql_laws.specs.history.declared.event.Event.{Event}
 use Rattle.dsql_laws.specs.history.declared.work.Scope.{Scope}
 use Rattle.dsql_laws.specs.history.declared.work.Scope.TheVariants.{Db, Tx}
@@ -37,7 +37,7 @@ use Rattle.dsql_laws.specs.history.Readers.Journals.{journal, heard_in}
 use Rattle.dsql_laws.specs.history.Readers.Pool.{place}
 use Rattle.dsql_laws.specs.history.Readers.Lines.{line_in}
 use Rattle.dsql_laws.specs.history.Readers.Calls.{site}
-use Rattle.dsql_laws.specs.history.Rules.Sent.{is_reset_due, asked_by, found, body_with, untested, inner_after, begin_after, begin_line, line_with, line_at, line_of}
+use Rattle.dsql_laws.specs.history.Rules.Sent.{is_reset_due, asked_by, untested, inner_after, begin_after, begin_line, line_with, line_at, line_of}
 use Rattle.dsql_laws.specs.history.Rules.Line.{is_due}
 
 -- Is true if the driver call neither begins nor ends a transaction.
@@ -122,15 +122,15 @@ over_plain : (can : Caps) (asked : Asked) (o : Option Due) → is_plain (sent_ov
 over_plain can asked None = refl
 over_plain can asked (Some d) = sent_plain can asked d
 
-body_plain : (can : Caps) (asked : Asked) (w : Wish) (made : List Exchange) (o : Option ℕ) → is_plain (plain.body_with can asked w made o) ≡ true
-body_plain can asked w made None = sent_plain can asked (comes_next (plain.course_of asked.aim) can (length asked.params) plain.going_on made)
+body_plain : (can : Caps) (asked : Asked) (w : Wish) (made : List Exchange) (o : Option ℕ) → is_plain (plain.body_with can false asked w made o) ≡ true
+body_plain can asked w made None = sent_plain can asked (comes_next (plain.course_of asked.aim) can (length asked.params) (found false) made)
 body_plain can asked w made (Some rows) = over_plain can asked (rows_next w can (length asked.params) made rows)
 
 pub line_plain : (can : Caps) (reset : Bool) (asked : Asked) (w : Wish) (L : List Entry) → is_plain (plain.line_after can reset asked w L) ≡ true
-line_plain can reset asked w [] = either_plain reset (Some Reset) (plain.body_after can asked w []) refl (body_plain can asked w [] (handed asked.aim []))
+line_plain can reset asked w [] = either_plain reset (Some Reset) (plain.body_after can false asked w []) refl (body_plain can asked w [] (handed asked.aim []))
 line_plain can reset asked w (e ∷ earlier) =
     let made = exchanges (e ∷ earlier) in
-    either_plain (is_bad e.answer || is_valid e.call) None (plain.body_after can asked w made) refl (body_plain can asked w made (handed asked.aim made))
+    either_plain (is_bad e.answer || is_valid e.call) None (plain.body_after can false asked w made) refl (body_plain can asked w made (handed asked.aim made))
 
 inner_plain : (can : Caps) (bad : Bool) (asked : Asked) (w : Wish) (made : List Exchange) (o : Option ℕ) → is_plain (body_with can bad asked w made o) ≡ true
 inner_plain can bad asked w made None = sent_plain can asked (comes_next (plain.course_of asked.aim) can (length asked.params) (found bad) made)

@@ -23,10 +23,10 @@ use Rattle.dsql_laws.specs.journal.Kinds.{is_number}
 use Rattle.dsql_laws.specs.works.declared.work.Aim.{Aim}
 use Rattle.dsql_laws.specs.works.declared.work.Aim.TheVariants as aims
 use Rattle.dsql_laws.specs.works.Exchanges.{step_of, got_of, with_exchange, exchanges}
-use Rattle.dsql_laws.specs.works.Line.{Asked, course_of, run_for, sent_as, handed}
+use Rattle.dsql_laws.specs.works.Line.{Asked, course_of, run_for, sent_as, handed, found, body_with}
 use Rattle.dsql_laws.proofs.Tests.{same_number, same_itself}
 use Rattle.dsql_laws.specs.history.Readers.Lines.{closes_cursor, has_cursor, is_about}
-use Rattle.dsql_laws.specs.history.Rules.Sent.{found, body_with, untested, inner_after}
+use Rattle.dsql_laws.specs.history.Rules.Sent.{untested, inner_after}
 use Rattle.dsql_laws.specs.history.Rules.Line.{is_due}
 use Rattle.dsql_laws_calls.proofs.InnerLines.{sends, bad_sends, NoCursor, Ordered, OneDue, one_due, ended_cursor, clash}
 

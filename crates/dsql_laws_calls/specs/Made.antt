@@ -1,5 +1,5 @@
 -- Defines the exchanges on each connection since it was lent, as the course of its call sees them.
-use Rattle.std.specs.Prelude.{ℕ, ◌==◌, Bool, ◌||◌, cond, List, [], ◌∷◌, Option, Some, None}
+use Rattle.std.specs.Prelude.{ℕ, ◌==◌, Bool, false, ◌||◌, cond, List, [], ◌∷◌, Option, Some, None}
 use Rattle.dsql_laws.specs.driver.Kinds.{is_bad, is_valid}
 use Rattle.dsql_laws.specs.driver.declared.caps.Caps.{Caps}
 use Rattle.dsql_laws.specs.driver.declared.call.DriverCall.{DriverCall}
@@ -19,7 +19,7 @@ with_entry e made = with_exchange (step_of e.call) e.answer made
 
 -- Returns the first driver call of a tenure.
 abbrev pub first_sent : Caps → Bool → Asked → Wish → List Exchange → Option DriverCall
-first_sent can reset_due asked wish made = cond reset_due (Some Reset) (body_after can asked wish made)
+first_sent can reset_due asked wish made = cond reset_due (Some Reset) (body_after can false asked wish made)
 
 -- Returns the next driver call in tenure t, given the connection's journal and the exchanges. Only the newest
 -- entry of the journal counts.
@@ -27,7 +27,7 @@ abbrev pub sent_next : Caps → Bool → Asked → Wish → ℕ → List Entry �
 sent_next can reset_due asked wish t [] made = first_sent can reset_due asked wish made
 sent_next can reset_due asked wish t (e ∷ earlier) made =
     cond (e.tenure == t) (cond (is_bad e.answer
-    || is_valid e.call) None (body_after can asked wish made)) (first_sent can reset_due asked wish made)
+    || is_valid e.call) None (body_after can false asked wish made)) (first_sent can reset_due asked wish made)
 
 abbrev pub made : List Event → ℕ → List Exchange
 made before c = there [] with_entry before c

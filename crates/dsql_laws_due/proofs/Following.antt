@@ -24,7 +24,7 @@ use Rattle.dsql_laws_calls.specs.pool.Places.{is_closing, is_opening}
 use Rattle.dsql_laws_calls.specs.pool.Pooled.{next_tenure}
 use Rattle.dsql_laws_calls.specs.tx.declared.end.TxEnd.{TxEnd}
 use Rattle.dsql_laws_calls.specs.works.Exchanges.{step_of}
-use Rattle.dsql_laws_calls.specs.works.Line.{handed, test_of}
+use Rattle.dsql_laws_calls.specs.works.Line.{handed, test_of, body_after}
 use Rattle.dsql_laws_calls.proofs.laws_work.CallLines.{sent_entry}
 use Rattle.dsql_laws_calls.proofs.laws_work.Lines.{sent_entry_of}
 use Rattle.dsql_laws_calls.proofs.laws.Places.{neither}
@@ -42,7 +42,7 @@ use Rattle.dsql_laws_calls.specs.history.Readers.Works.{aim_of, scope, work}
 use Rattle.dsql_laws_calls.specs.history.Rules.Causes.{goes_in_turn}
 use Rattle.dsql_laws_calls.specs.history.Rules.Ending.{ending}
 use Rattle.dsql_laws_calls.specs.history.Rules.Line.{is_due, is_used, may_come, rest, rest_with}
-use Rattle.dsql_laws_calls.specs.history.Rules.Sent.{asked_by, begin_after, begin_line, body_after, is_reset_due, untested}
+use Rattle.dsql_laws_calls.specs.history.Rules.Sent.{asked_by, begin_after, begin_line, is_reset_due, untested}
 use Rattle.dsql_laws_calls.specs.history.Legal.{Lawful}
 use Rattle.dsql_laws_calls.specs.laws.Leaving.{MayLeave}
 use Rattle.dsql_laws_tenures.proofs.TenureQuiet.{may_follow-shut}

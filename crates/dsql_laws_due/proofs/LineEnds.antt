@@ -18,8 +18,8 @@ use Rattle.dsql_laws_calls.specs.course.Rows.{closing, closing_of, rows_next_if}
 use Rattle.dsql_laws_calls.specs.journal.Kinds.{◌⇒◌}
 use Rattle.dsql_laws_calls.specs.works.declared.work.Aim.{Aim}
 use Rattle.dsql_laws_calls.specs.works.declared.work.Aim.TheVariants as aims
-use Rattle.dsql_laws_calls.specs.works.Line.{Asked, course_of, sent_as, sent_over, handed}
-use Rattle.dsql_laws_calls.specs.history.Rules.Sent.{found, body_with, untested, body_after}
+use Rattle.dsql_laws_calls.specs.works.Line.{Asked, course_of, sent_as, sent_over, handed, found, body_with, body_after}
+use Rattle.dsql_laws_calls.specs.history.Rules.Sent.{untested}
 use Rattle.dsql_laws_tenures.specs.Orderly.{asks_text, gives_cursor, gives_handle}
 use Rattle.dsql_laws_tenures.specs.Sent.{WasSent}
 use Rattle.dsql_laws_tenures.proofs.CallAnswers.{asking}

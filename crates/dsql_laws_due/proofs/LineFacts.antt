@@ -15,7 +15,7 @@ use Rattle.dsql_laws_calls.specs.journal.Readers.{of_tenure, went_bad}
 use Rattle.dsql_laws_calls.specs.driver.Kinds.{is_bad}
 use Rattle.dsql_laws_calls.specs.pool.declared.conn.Place.TheVariants.{Lent}
 use Rattle.dsql_laws_calls.specs.works.Exchanges.{exchanges, got_of, step_of, with_exchange}
-use Rattle.dsql_laws_calls.specs.works.Line.{handed}
+use Rattle.dsql_laws_calls.specs.works.Line.{handed, body_after}
 use Rattle.dsql_laws_calls.specs.works.declared.work.Aim.{Aim}
 use Rattle.dsql_laws_calls.specs.works.declared.work.Aim.TheVariants as aims
 use Rattle.dsql_laws_calls.proofs.laws.Tests.{same_itself}
@@ -27,7 +27,7 @@ use Rattle.dsql_laws_calls.specs.history.Readers.Lines.{is_about, line_among}
 use Rattle.dsql_laws_calls.specs.history.Readers.Pool.{place}
 use Rattle.dsql_laws_calls.specs.history.Readers.Works.{aim_of, is_in, scope, work}
 use Rattle.dsql_laws_calls.specs.history.Rules.Line.{is_due}
-use Rattle.dsql_laws_calls.specs.history.Rules.Sent.{asked_by, body_after, untested}
+use Rattle.dsql_laws_calls.specs.history.Rules.Sent.{asked_by, untested}
 use Rattle.dsql_laws_tenures.specs.Orderly.{asks_text, is_in_order}
 use Rattle.dsql_laws_tenures.specs.Sent.{WasSent}
 use Rattle.dsql_laws_tenures.specs.Tenures.{made_by}

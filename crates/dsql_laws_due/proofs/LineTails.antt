@@ -24,10 +24,10 @@ use Rattle.dsql_laws_calls.specs.journal.Kinds.{◌⇒◌, is_number}
 use Rattle.dsql_laws_calls.specs.works.declared.work.Aim.{Aim}
 use Rattle.dsql_laws_calls.specs.works.declared.work.Aim.TheVariants as aims
 use Rattle.dsql_laws_calls.specs.works.Exchanges.{step_of, got_of, with_exchange}
-use Rattle.dsql_laws_calls.specs.works.Line.{Asked, course_of, sent_as, sent_over}
+use Rattle.dsql_laws_calls.specs.works.Line.{Asked, course_of, sent_as, sent_over, found, body_with, body_after}
 use Rattle.dsql_laws_calls.proofs.laws.Tests.{both, same_number}
 use Rattle.dsql_laws_calls.specs.history.Readers.Lines.{closes_cursor, closes_handle, has_cursor, has_handle, is_of}
-use Rattle.dsql_laws_calls.specs.history.Rules.Sent.{found, body_with, untested, body_after}
+use Rattle.dsql_laws_calls.specs.history.Rules.Sent.{untested}
 use Rattle.dsql_laws_calls.specs.history.Rules.Line.{is_due}
 use Rattle.dsql_laws_tenures.specs.Orderly.{asks_text}
 use Rattle.dsql_laws_tenures.specs.Sent.{WasSent}

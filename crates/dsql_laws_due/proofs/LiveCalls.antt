@@ -82,7 +82,7 @@ going_line can reset asked w [] r own going = absurd (nothing asked.aim own)
     nothing : (x : Aim) → handed x [] ≡ Some r → ⊥
     nothing aims.HandOut h = cc
     nothing _ h = cc
-going_line can reset asked w (e ∷ L) r own going = ap (λ b. cond b None (body_after can asked w (exchanges (e ∷ L)))) going.unended ∙ open_plain can asked w (exchanges (e ∷ L)) r own going.open_rows
+going_line can reset asked w (e ∷ L) r own going = ap (λ b. cond b None (body_after can false asked w (exchanges (e ∷ L)))) going.unended ∙ open_plain can asked w (exchanges (e ∷ L)) r own going.open_rows
 
 -- Before a run no rows are over.
 

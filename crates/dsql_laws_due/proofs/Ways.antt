@@ -17,7 +17,7 @@ use Rattle.dsql_laws_calls.specs.pool.declared.conn.Place.TheVariants.{Lent}
 use Rattle.dsql_laws_calls.specs.tx.declared.end.TxEnd.{TxEnd}
 use Rattle.dsql_laws_calls.specs.tx.declared.end.TxEnd.TheVariants as tx_ends
 use Rattle.dsql_laws_calls.specs.works.Exchanges.{exchanges}
-use Rattle.dsql_laws_calls.specs.works.Line.{handed, test_of}
+use Rattle.dsql_laws_calls.specs.works.Line.{handed, test_of, body_after}
 use Rattle.dsql_laws_calls.proofs.laws_work.Rows.{not_true}
 use Rattle.dsql_laws_calls.specs.history.Readers.HandedOut.{over, rows_by, are_live, are_over, ender, is_late}
 use Rattle.dsql_laws_calls.specs.history.Rules.Wishes.{wish_as}
@@ -35,7 +35,7 @@ use Rattle.dsql_laws_calls.specs.history.Readers.Lines.{line_among, has_sent}
 use Rattle.dsql_laws_calls.specs.history.Readers.Pool.{place, home}
 use Rattle.dsql_laws_calls.specs.history.Readers.Transactions.{tx_end, is_begun, is_over, tx_ender}
 use Rattle.dsql_laws_calls.specs.history.Readers.Calls.{decided, has_begun_to_send, site}
-use Rattle.dsql_laws_calls.specs.history.Rules.Sent.{asked_by, inner_after, untested, body_after, line_of, closes, wish, sent_for, closing}
+use Rattle.dsql_laws_calls.specs.history.Rules.Sent.{asked_by, inner_after, untested, line_of, closes, wish, sent_for, closing}
 use Rattle.dsql_laws_calls.specs.history.Rules.Ending.{first_closing, ended_by_call, end_after, ending_at, ending_with, ending}
 use Rattle.dsql_laws_calls.specs.history.Rules.Line.{due_in, due_for, tidying, is_due, is_due_at}
 use Rattle.dsql_laws_calls.specs.history.Legal.{Lawful}

@@ -21,13 +21,13 @@ use Rattle.dsql_laws_calls.specs.course.Rows.{closing_of, rows_next_if}
 use Rattle.dsql_laws_calls.specs.works.declared.work.Aim.{Aim}
 use Rattle.dsql_laws_calls.specs.works.declared.work.Aim.TheVariants as aims
 use Rattle.dsql_laws_calls.specs.works.Exchanges.{got_of, step_of, with_exchange}
-use Rattle.dsql_laws_calls.specs.works.Line.{Asked, handed, sent_as, sent_over}
+use Rattle.dsql_laws_calls.specs.works.Line.{Asked, handed, sent_as, sent_over, body_after, body_with}
 use Rattle.dsql_laws_calls.proofs.laws_work.MadeLines.{asking, has_text}
 use Rattle.dsql_laws_calls.specs.history.declared.work.Scope.TheVariants.{Tx}
 use Rattle.dsql_laws_calls.specs.history.declared.work.Work.{Work}
 use Rattle.dsql_laws_calls.specs.history.Readers.Works.{aim_of, scope}
 use Rattle.dsql_laws_calls.specs.history.Rules.Line.{is_due}
-use Rattle.dsql_laws_calls.specs.history.Rules.Sent.{body_after, body_with, untested}
+use Rattle.dsql_laws_calls.specs.history.Rules.Sent.{untested}
 use Rattle.dsql_laws_calls.proofs.Quiet.{next_inside}
 use Rattle.dsql_laws_replies.proofs.InnerAwaits.{Awaiting, ByHandle, ByText, fourth_handle, fourth_text, text_of}
 use Rattle.dsql_laws_replies.proofs.InnerDecides.{Outcome}

@@ -119,11 +119,11 @@ of_next rows (Next other) d = d
 of_next rows q d = absurd cc
 
 opened_body : (can : Caps) (text : List ℕ) (params : List Param) (w : Wish) (own : Option ℕ) (rows : ℕ) (made : List Exchange) (q : DriverCall) → MadeRows can (asking text params aims.ReadOne) own rows false (due.Next rows) made
-    → is_due (body_after can (asking text params aims.ReadOne) w made) q ≡ true → fetches_from (Some rows) q ≡ true
+    → is_due (body_after can false (asking text params aims.ReadOne) w made) q ≡ true → fetches_from (Some rows) q ≡ true
 opened_body can text params w own rows made q m d = of_next rows q (rw m.sends at d)
 
 opened_after : (can : Caps) (text : List ℕ) (params : List Param) (w : Wish) (s : Step) (p : DriverCall) (a : DriverAnswer) (made : List Exchange) (q : DriverCall) → opens_rows p a ≡ true
-    → MadeAt can (asking text params aims.ReadOne) (step_after s p a) (with_exchange (step_of p) a made) → is_due (body_after can (asking text params aims.ReadOne) w (with_exchange (step_of p) a made)) q ≡ true
+    → MadeAt can (asking text params aims.ReadOne) (step_after s p a) (with_exchange (step_of p) a made) → is_due (body_after can false (asking text params aims.ReadOne) w (with_exchange (step_of p) a made)) q ≡ true
     → fetches_from (given_cursor a) q ≡ true
 opened_after can text params w s (Query (Text t) ps) (Cursor rows columns) made q o m d = opened_body can text params w None rows (with_exchange (step_of (Query (Text t) ps)) (Cursor rows columns) made) q m d
 opened_after can text params w s (Query (Handle h) ps) (Cursor rows columns) made q o m d = opened_body can text params w (Some h) rows (with_exchange (step_of (Query (Handle h) ps)) (Cursor rows columns) made) q m d
@@ -139,7 +139,7 @@ fetched_next can reset text params aim w p earlier q one o m d = absurd cc
 -- No fetch follows after that.
 
 fetching_body : (can : Caps) (text : List ℕ) (params : List Param) (w : Wish) (s : Step) (made : List Exchange) (rows : ℕ) → MadeAt can (asking text params aims.ReadOne) s made → goes s (Next rows) ≡ true
-    → is_due (body_after can (asking text params aims.ReadOne) w made) (Next rows) ≡ true → is_before_row s ≡ true
+    → is_due (body_after can false (asking text params aims.ReadOne) w made) (Next rows) ≡ true → is_before_row s ≡ true
 fetching_body can text params w (HasRows own cursor) made rows m g d = refl
 fetching_body can text params w (HasRead own cursor false) made rows m g d = let k = rw m.sends at d in absurd cc
 fetching_body can text params w (HasRead own cursor true) made rows m g d = absurd cc

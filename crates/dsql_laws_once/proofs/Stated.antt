@@ -20,7 +20,7 @@ use Rattle.dsql_laws_calls.specs.journal.Readers.{went_bad}
 use Rattle.dsql_laws_calls.specs.pool.declared.conn.Place.TheVariants.{Lent}
 use Rattle.dsql_laws_calls.specs.works.declared.work.Aim.TheVariants as aims
 use Rattle.dsql_laws_calls.specs.works.Exchanges.{exchanges, step_of}
-use Rattle.dsql_laws_calls.specs.works.Line.{Asked, handed, sent_as, sent_over}
+use Rattle.dsql_laws_calls.specs.works.Line.{Asked, handed, sent_as, sent_over, body_with}
 use Rattle.dsql_laws_calls.proofs.laws_work.HandedLines.{SentOver, due_over}
 use Rattle.dsql_laws_calls.specs.history.Readers.HandedOut.{over, are_over, rows_by}
 use Rattle.dsql_laws_calls.proofs.laws.Tests.{both, same_number, other_number}
@@ -35,7 +35,7 @@ use Rattle.dsql_laws_calls.specs.history.Readers.Lines.{line_among}
 use Rattle.dsql_laws_calls.specs.history.Readers.Pool.{place}
 use Rattle.dsql_laws_calls.specs.history.Readers.Works.{asks, aim_of, scope, work}
 use Rattle.dsql_laws_calls.specs.history.Rules.Line.{is_due, may_come}
-use Rattle.dsql_laws_calls.specs.history.Rules.Sent.{asked_by, body_with, is_reset_due, untested}
+use Rattle.dsql_laws_calls.specs.history.Rules.Sent.{asked_by, is_reset_due, untested}
 use Rattle.dsql_laws_calls.specs.history.Legal.{Lawful}
 use Rattle.dsql_laws_calls.proofs.Beginnings.{begin_owner, begin_stepless, begin_there, due_steps, stepless}
 use Rattle.dsql_laws_calls.proofs.BeginningsAt.{way_of}

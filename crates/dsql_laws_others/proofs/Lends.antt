@@ -110,7 +110,7 @@ abbrev is_answered : Caps → Aim → Bool
 is_answered can aims.Ping = can.pinger || can.validator
 is_answered can _ = true
 
-first_due : (can : Caps) (asked : Asked) (w : Wish) → is_answered can asked.aim ≡ true → is_some (body_after can asked w []) ≡ true
+first_due : (can : Caps) (asked : Asked) (w : Wish) → is_answered can asked.aim ≡ true → is_some (body_after can false asked w []) ≡ true
 first_due can asked w answered = rw (body_before can asked w [] refl, first_of can asked.text asked.params asked.aim) (by_aim asked.aim answered)
   where
     by_fast : (b : Bool) → is_some (sent_as can asked (cond b due.Text due.Prepare)) ≡ true

@@ -25,7 +25,7 @@ use Rattle.dsql_laws_calls.specs.pool.declared.moves.Move.TheVariants.{Lend, Fel
 use Rattle.dsql_laws_calls.specs.works.declared.work.Aim.TheVariants as aims
 use Rattle.dsql_laws_calls.specs.works.Journals.{ends_invalid}
 use Rattle.dsql_laws_calls.specs.works.Exchanges.{exchanges}
-use Rattle.dsql_laws_calls.specs.works.Line.{Asked, body_after, going_on, line_after, sent_as}
+use Rattle.dsql_laws_calls.specs.works.Line.{Asked, body_after, found, line_after, sent_as}
 use Rattle.dsql_laws_calls.proofs.laws_work.Lines.{is_over}
 use Rattle.dsql_laws_calls.specs.history.declared.record.Try.{Try}
 use Rattle.dsql_laws_calls.specs.history.declared.record.Try.TheVariants.{Served, Refused}
@@ -96,21 +96,21 @@ left_ping (x ∷ earlier) = by x.0
     by due.Text = inl refl
     by _ = inl refl
 
-first_over : (can : Caps) (args : ℕ) (made : List Exchange) (ss : List Step) → can.pinger ≡ false → AtMostPing ss → first_wanted courses.Ping can args going_on made ss ≡ due.Over
-first_over can args made ss none (inl is) = ap (first_wanted courses.Ping can args going_on made) is
-first_over can args made ss none (inr is) = ap (first_wanted courses.Ping can args going_on made) is ∙ ap (λ (b : Bool). or_then (when (b && true) due.Ping) due.Over) none
+first_over : (can : Caps) (args : ℕ) (made : List Exchange) (ss : List Step) → can.pinger ≡ false → AtMostPing ss → first_wanted courses.Ping can args (found false) made ss ≡ due.Over
+first_over can args made ss none (inl is) = ap (first_wanted courses.Ping can args (found false) made) is
+first_over can args made ss none (inr is) = ap (first_wanted courses.Ping can args (found false) made) is ∙ ap (λ (b : Bool). or_then (when (b && true) due.Ping) due.Over) none
 
-comes_over : (can : Caps) (args : ℕ) (made : List Exchange) → can.pinger ≡ false → comes_next courses.Ping can args going_on made ≡ due.Over
+comes_over : (can : Caps) (args : ℕ) (made : List Exchange) → can.pinger ≡ false → comes_next courses.Ping can args (found false) made ≡ due.Over
 comes_over can args made none = by (went_bad made)
   where
-    by : (b : Bool) → (if b then due.Over else first_wanted courses.Ping can args going_on made (steps_left courses.Ping made)) ≡ due.Over
+    by : (b : Bool) → (if b then due.Over else first_wanted courses.Ping can args (found false) made (steps_left courses.Ping made)) ≡ due.Over
     by true = refl
     by false = first_over can args made (steps_left courses.Ping made) none (left_ping made)
 
-unsent : (can : Caps) (asked : Asked) (w : Wish) (made : List Exchange) → asked.aim ≡ aims.Ping → can.pinger ≡ false → can.validator ≡ false → body_after can asked w made ≡ None
+unsent : (can : Caps) (asked : Asked) (w : Wish) (made : List Exchange) → asked.aim ≡ aims.Ping → can.pinger ≡ false → can.validator ≡ false → body_after can false asked w made ≡ None
 unsent can asked w made aim pingless testless =
     let of : Asked = record { text = asked.text; params = asked.params; aim = aims.Ping } in
-    ap (λ a. body_after can (record { text = asked.text; params = asked.params; aim = a }) w made) aim
+    ap (λ a. body_after can false (record { text = asked.text; params = asked.params; aim = a }) w made) aim
     ∙ (ap (sent_as can of) (comes_over can (length asked.params) made pingless) ∙ ap (λ (b : Bool). cond b (Some Valid) None) testless)
 
 reset_only : (q : DriverCall) → is_due (Some Reset) q ≡ true → q ≡ Reset
@@ -120,15 +120,15 @@ reset_only q h = absurd cc
 none_due : (d : Option DriverCall) (q : DriverCall) → d ≡ None → is_due d q ≡ true → q ≡ Reset
 none_due d q none h = let clash : is_due None q ≡ true = ap (λ o. is_due o q) (sym none) ∙ h in absurd cc
 
-only_reset : (can : Caps) (reset : Bool) (asked : Asked) (w : Wish) (L : List Entry) (q : DriverCall) → ((made : List Exchange) → body_after can asked w made ≡ None) → is_due (line_after can reset asked w L) q ≡ true
+only_reset : (can : Caps) (reset : Bool) (asked : Asked) (w : Wish) (L : List Entry) (q : DriverCall) → ((made : List Exchange) → body_after can false asked w made ≡ None) → is_due (line_after can reset asked w L) q ≡ true
     → q ≡ Reset
 only_reset can true asked w [] q none h = reset_only q h
-only_reset can false asked w [] q none h = none_due (body_after can asked w []) q (none []) h
+only_reset can false asked w [] q none h = none_due (body_after can false asked w []) q (none []) h
 only_reset can reset asked w (e ∷ L) q none h = by (is_bad e.answer || is_valid e.call) h
   where
-    by : (b : Bool) → is_due (cond b None (body_after can asked w (exchanges (e ∷ L)))) q ≡ true → q ≡ Reset
+    by : (b : Bool) → is_due (cond b None (body_after can false asked w (exchanges (e ∷ L)))) q ≡ true → q ≡ Reset
     by true k = none_due None q refl k
-    by false k = none_due (body_after can asked w (exchanges (e ∷ L))) q (none (exchanges (e ∷ L))) k
+    by false k = none_due (body_after can false asked w (exchanges (e ∷ L))) q (none (exchanges (e ∷ L))) k
 
 -- A call that rests after an event rested before it, if the event leaves its connection.
 

@@ -93,7 +93,7 @@ run_not_tested asked text h = by_aim asked.aim h
     by_aim aims.Execute k = cc
     by_aim _ k = cc
 
-first_untested : (can : Caps) (asked : Asked) (w : Wish) → needs_answer can asked.aim ≡ true → is_due (body_after can asked w []) Valid ≡ true → ⊥
+first_untested : (can : Caps) (asked : Asked) (w : Wish) → needs_answer can asked.aim ≡ true → is_due (body_after can false asked w []) Valid ≡ true → ⊥
 first_untested can asked w needs h = by_aim asked.aim needs (rw (body_before can asked w [] refl, first_of can asked.text asked.params asked.aim) at h)
   where
     by_fast : (b : Bool) → is_due (sent_as can asked (cond b due.Text due.Prepare)) Valid ≡ true → ⊥
@@ -111,7 +111,7 @@ first_untested can asked w needs h = by_aim asked.aim needs (rw (body_before can
     by_aim aims.Ping n k = by_ping can.pinger n k
 
 testing_body : (can : Caps) (asked : Asked) (w : Wish) (s : Step) (made : List Exchange) → MadeAt can asked s made → needs_answer can asked.aim ≡ true → goes s Valid ≡ true
-    → is_due (body_after can asked w made) Valid ≡ true → is_awaiting (is_one asked.aim) s ≡ false
+    → is_due (body_after can false asked w made) Valid ≡ true → is_awaiting (is_one asked.aim) s ≡ false
 testing_body can asked w Start made m needs g d = absurd (first_untested can asked w needs (rw m at d))
 testing_body can asked w WasReset made m needs g d = absurd (first_untested can asked w needs (rw m at d))
 testing_body can asked w WasDone made m needs g d = refl
@@ -128,7 +128,7 @@ testing can reset asked w (e ∷ earlier) m needs g d =
 
 -- If a call reads one row itself, its cursor is closed only after a row was fetched.
 freeing_body : (can : Caps) (text : List ℕ) (params : List Param) (aim : Aim) (w : Wish) (s : Step) (made : List Exchange) (rows : ℕ) → MadeAt can (asking text params aim) s made
-    → goes s (CloseRows rows) ≡ true → is_due (body_after can (asking text params aim) w made) (CloseRows rows) ≡ true → is_awaiting (is_one aim) s ≡ false
+    → goes s (CloseRows rows) ≡ true → is_due (body_after can false (asking text params aim) w made) (CloseRows rows) ≡ true → is_awaiting (is_one aim) s ≡ false
 freeing_body can text params aims.ReadOne w (HasRows own cursor) made rows m g d = let k = rw m.sends at d in absurd cc
 freeing_body can text params aims.HandOut w (HasRows own cursor) made rows m g d = refl
 freeing_body can text params aims.Ping w (HasRows own cursor) made rows m g d = refl
@@ -160,7 +160,7 @@ inputs_in (Some p) = p.1
 
 closing_after : (can : Caps) (asked : Asked) (w : Wish) (one : Bool) (s : Step) (q : DriverCall) (a : DriverAnswer) (made : List Exchange) (h : ℕ)
     → MadeAt can asked (step_after s q a) (with_exchange (step_of q) a made) → goes (step_after s q a) (CloseStmt h) ≡ true
-    → is_due (body_after can asked w (with_exchange (step_of q) a made)) (CloseStmt h) ≡ true → awaits_after one q a (length asked.params) ≡ false
+    → is_due (body_after can false asked w (with_exchange (step_of q) a made)) (CloseStmt h) ≡ true → awaits_after one q a (length asked.params) ≡ false
 closing_after can asked w one s q Bad made h m g k = refl
 closing_after can asked w one s Reset a made h m g k = absurd cc
 closing_after can asked w one s (Exec (Text text) params) Skip made h m g k = absurd cc
@@ -185,7 +185,7 @@ closing_awaits can reset asked w one (e ∷ earlier) h made g k =
 
 -- If nothing is due, no answer is awaited.
 
-some_first : (can : Caps) (asked : Asked) (w : Wish) → needs_answer can asked.aim ≡ true → is_none (body_after can asked w []) ≡ true → ⊥
+some_first : (can : Caps) (asked : Asked) (w : Wish) → needs_answer can asked.aim ≡ true → is_none (body_after can false asked w []) ≡ true → ⊥
 some_first can asked w needs h = by_aim asked.aim needs (rw (body_before can asked w [] refl, first_of can asked.text asked.params asked.aim) at h)
   where
     by_fast : (b : Bool) → is_none (sent_as can asked (cond b due.Text due.Prepare)) ≡ true → ⊥
@@ -202,7 +202,7 @@ some_first can asked w needs h = by_aim asked.aim needs (rw (body_before can ask
     by_aim aims.HandOut n k = by_fast (has_fast_way courses.Query can) k
     by_aim aims.Ping n k = by_ping can.pinger n k
 
-some_second : (can : Caps) (asked : Asked) (w : Wish) → has_text asked.aim ≡ true → is_none (body_after can asked w ((due.Text, got.Skip) ∷ [])) ≡ true → ⊥
+some_second : (can : Caps) (asked : Asked) (w : Wish) → has_text asked.aim ≡ true → is_none (body_after can false asked w ((due.Text, got.Skip) ∷ [])) ≡ true → ⊥
 some_second can asked w texts h =
     let k : is_none (sent_as can asked due.Prepare) ≡ true =
     rw (body_before can asked w ((due.Text, got.Skip) ∷ []) refl, second_of can asked.text asked.params asked.aim texts) at h in
@@ -213,12 +213,12 @@ none_keep aims.HandOut w made h = rw h refl
 none_keep _ w made h = refl
 
 done_rows : (can : Caps) (text : List ℕ) (params : List Param) (aim : Aim) (w : Wish) (own : Option ℕ) (rows : ℕ) (made : List Exchange)
-    → MadeAt can (asking text params aim) (HasRows own rows) made → is_none (body_after can (asking text params aim) w made) ≡ true → is_one aim ≡ false
+    → MadeAt can (asking text params aim) (HasRows own rows) made → is_none (body_after can false (asking text params aim) w made) ≡ true → is_one aim ≡ false
 done_rows can text params aims.ReadOne w own rows made m h = let k = rw m.sends at h in absurd cc
 done_rows can text params _ w own rows made m h = refl
 
 done_awaits : (can : Caps) (asked : Asked) (w : Wish) (s : Step) (made : List Exchange) → needs_answer can asked.aim ≡ true → MadeAt can asked s made
-    → is_none (body_after can asked w made) ≡ true → is_awaiting (is_one asked.aim) s ≡ false
+    → is_none (body_after can false asked w made) ≡ true → is_awaiting (is_one asked.aim) s ≡ false
 done_awaits can asked w Start made needs m h = absurd (some_first can asked w needs (rw m at h))
 done_awaits can asked w WasReset made needs m h = absurd (some_first can asked w needs (rw m at h))
 done_awaits can asked w WasSkipped made needs m h = absurd (some_second can asked w m.1 (rw m.0 at h))
@@ -237,7 +237,7 @@ nothing_awaited can true asked w [] needs made h = absurd cc
 nothing_awaited can false asked w [] needs made h = absurd (some_first can asked w needs h)
 nothing_awaited can reset asked w (e ∷ earlier) needs made h = by_end (is_bad e.answer || is_valid e.call) refl h
   where
-    by_end : (b : Bool) → is_bad e.answer || is_valid e.call ≡ b → is_none (cond b None (body_after can asked w (exchanges (e ∷ earlier)))) ≡ true
+    by_end : (b : Bool) → is_bad e.answer || is_valid e.call ≡ b → is_none (cond b None (body_after can false asked w (exchanges (e ∷ earlier)))) ≡ true
         → awaits (is_one asked.aim) (e ∷ earlier) (length asked.params) ≡ false
     by_end true is k = ended_awaits (is_one asked.aim) e.call e.answer (length asked.params) is
     by_end false is k =

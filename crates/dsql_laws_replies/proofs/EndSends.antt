@@ -21,7 +21,7 @@ use Rattle.dsql_laws_calls.specs.pool.declared.conn.Place.{Place}
 use Rattle.dsql_laws_calls.specs.pool.declared.conn.Place.TheVariants.{Lent}
 use Rattle.dsql_laws_calls.specs.tx.declared.end.TxEnd.{TxEnd}
 use Rattle.dsql_laws_calls.specs.tx.declared.end.TxEnd.TheVariants as tx_ends
-use Rattle.dsql_laws_calls.specs.works.Line.{sent_as, sent_over, handed, Asked}
+use Rattle.dsql_laws_calls.specs.works.Line.{sent_as, sent_over, handed, Asked, body_with}
 use Rattle.dsql_laws_calls.specs.works.declared.work.Aim.TheVariants as aims
 use Rattle.dsql_laws_calls.specs.history.Readers.HandedOut.{rows_by, are_over}
 use Rattle.dsql_laws_calls.proofs.laws.Tests.{both, same_number}
@@ -36,7 +36,7 @@ use Rattle.dsql_laws_calls.specs.history.Readers.Transactions.{tx_end, tx_ender,
 use Rattle.dsql_laws_calls.specs.history.Readers.Works.{works, work, scope, hands_out_in, aim_of}
 use Rattle.dsql_laws_calls.specs.history.Rules.Ending.{first_closing, end_after, ended_by_call, ending_at, ending_with, ending}
 use Rattle.dsql_laws_calls.specs.history.Rules.Line.{is_due, is_due_at, due_in, due_for, tidying, parts, may_come}
-use Rattle.dsql_laws_calls.specs.history.Rules.Sent.{asked_by, body_with, untested, line_of, closing}
+use Rattle.dsql_laws_calls.specs.history.Rules.Sent.{asked_by, untested, line_of, closing}
 use Rattle.dsql_laws_calls.specs.history.Legal.{Lawful}
 use Rattle.dsql_laws_calls.proofs.Looks.{sent_no_look}
 use Rattle.dsql_laws_calls.proofs.Works as of_works

@@ -19,7 +19,7 @@ use Rattle.dsql_laws_calls.specs.course.Steps.{Step, RunText, PrepareText, RunHa
 use Rattle.dsql_laws_calls.specs.works.declared.work.Aim.{Aim}
 use Rattle.dsql_laws_calls.specs.works.declared.work.Aim.TheVariants as aims
 use Rattle.dsql_laws_calls.specs.works.Exchanges.{step_of, got_of, with_exchange}
-use Rattle.dsql_laws_calls.specs.works.Line.{sent_over, handed}
+use Rattle.dsql_laws_calls.specs.works.Line.{sent_over, handed, body_with, body_after}
 use Rattle.dsql_laws_calls.proofs.laws_work.MadeLines.{asking}
 use Rattle.dsql_laws_calls.proofs.laws.Tests.{both}
 use Rattle.dsql_laws_calls.specs.history.declared.reply.Reply.{Reply}
@@ -28,7 +28,7 @@ use Rattle.dsql_laws_calls.specs.history.declared.work.Work.{Work}
 use Rattle.dsql_laws_calls.specs.history.Readers.Lines.{is_about}
 use Rattle.dsql_laws_calls.specs.history.Readers.Works.{scope, aim_of}
 use Rattle.dsql_laws_calls.specs.history.Rules.Line.{is_due}
-use Rattle.dsql_laws_calls.specs.history.Rules.Sent.{body_with, body_after, untested}
+use Rattle.dsql_laws_calls.specs.history.Rules.Sent.{untested}
 use Rattle.dsql_laws_replies.proofs.InnerAwaits.{Awaiting}
 use Rattle.dsql_laws_replies.proofs.InnerOver.{Late, Over, is_tidy}
 use Rattle.dsql_laws_replies.proofs.InnerDecides.{Outcome, inner_settles, inner_stays, on_tidy}

@@ -15,9 +15,9 @@ use Rattle.dsql_laws_calls.specs.course.Made.{Exchange, went_bad, own_cursor, ow
 use Rattle.dsql_laws_calls.specs.course.Steps.{Step, FetchRow, CloseCursor, CloseHandle}
 use Rattle.dsql_laws_calls.specs.works.declared.work.Aim.{Aim}
 use Rattle.dsql_laws_calls.specs.works.declared.work.Aim.TheVariants as aims
-use Rattle.dsql_laws_calls.specs.works.Line.{course_of}
+use Rattle.dsql_laws_calls.specs.works.Line.{course_of, found}
 use Rattle.dsql_laws_calls.proofs.laws_work.MadeLines.{asking, has_text}
-use Rattle.dsql_laws_calls.specs.history.Rules.Sent.{found, untested}
+use Rattle.dsql_laws_calls.specs.history.Rules.Sent.{untested}
 use Rattle.dsql_laws_calls.proofs.Quiet.{next_inside}
 use Rattle.dsql_laws_calls.proofs.laws.Tests.{both}
 use Rattle.dsql_laws_replies.proofs.InnerAwaits.{Fresh}

@@ -18,10 +18,10 @@ use Rattle.dsql_history.specs.course.Rows.{closing, closing_of, rows_next_if, ro
 use Rattle.dsql_history.proofs.journal.Conjunctions.{parts2}
 use Rattle.dsql_history.specs.works.declared.work.Aim.{Aim}
 use Rattle.dsql_history.specs.works.declared.work.Aim.TheVariants as aims
-use Rattle.dsql_history.specs.works.Line.{Asked, sent_as, sent_over, handed}
+use Rattle.dsql_history.specs.works.Line.{Asked, sent_as, sent_over, handed, body_after}
 use Rattle.dsql_history.specs.Readers.Lines.{is_about}
 use Rattle.dsql_history.specs.Rules.Line.{is_due}
-use Rattle.dsql_history.specs.Rules.Sent.{untested, body_after}
+use Rattle.dsql_history.specs.Rules.Sent.{untested}
 use Rattle.dsql_laws_tenures.specs.Orderly.{is_in_order, place}
 use Rattle.dsql_laws_tenures.proofs.Numbers.{impossible}
 use Rattle.dsql_laws_tenures.proofs.Steps.{step_place, nothing_below, plain_when, all_left, left_behind}

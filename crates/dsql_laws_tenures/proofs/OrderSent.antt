@@ -21,9 +21,9 @@ use Rattle.dsql_history.proofs.journal.Conjunctions.{if_so, so_if, parts2, join2
 use Rattle.dsql_history.specs.works.declared.work.Aim.{Aim}
 use Rattle.dsql_history.specs.works.declared.work.Aim.TheVariants as aims
 use Rattle.dsql_history.specs.works.Exchanges.{got_of, step_of, with_exchange}
-use Rattle.dsql_history.specs.works.Line.{Asked, course_of, sent_as, sent_over}
+use Rattle.dsql_history.specs.works.Line.{Asked, course_of, sent_as, sent_over, found, body_with, body_after}
 use Rattle.dsql_history.specs.Rules.Line.{is_due}
-use Rattle.dsql_history.specs.Rules.Sent.{untested, found, body_with, body_after}
+use Rattle.dsql_history.specs.Rules.Sent.{untested}
 use Rattle.dsql_laws_tenures.specs.Orderly.{asks_text, is_in_order, opens_once, prepares_once, gives_handle, closes_stmt, place, is_fetch}
 use Rattle.dsql_laws_tenures.specs.Sent.{WasSent}
 use Rattle.dsql_laws_tenures.proofs.Numbers.{impossible, true_false, neither_of}

@@ -17,11 +17,11 @@ use Rattle.dsql_history.specs.course.Line.{comes_next}
 use Rattle.dsql_history.specs.course.Rows.{closing, closing_of, rows_next_if, rows_next_of}
 use Rattle.dsql_history.specs.works.declared.work.Aim.{Aim}
 use Rattle.dsql_history.specs.works.declared.work.Aim.TheVariants as aims
-use Rattle.dsql_history.specs.works.Line.{Asked, sent_as, sent_over}
+use Rattle.dsql_history.specs.works.Line.{Asked, sent_as, sent_over, found, body_with, body_after}
 use Rattle.dsql_history.specs.works.Same.{same_params}
 use Rattle.dsql_history.specs.Readers.Lines.{closes_cursor, has_cursor, has_handle}
 use Rattle.dsql_history.specs.Rules.Line.{is_due}
-use Rattle.dsql_history.specs.Rules.Sent.{untested, found, body_with, body_after}
+use Rattle.dsql_history.specs.Rules.Sent.{untested}
 use Rattle.dsql_laws_tenures.specs.Orderly.{is_in_order, asks_text}
 use Rattle.dsql_laws_tenures.proofs.Numbers.{same_number, is_itself, impossible, neither}
 use Rattle.dsql_laws_tenures.proofs.Steps.{Names, next_names}

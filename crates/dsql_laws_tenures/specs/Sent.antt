@@ -9,10 +9,10 @@ use Rattle.dsql_history.specs.course.declared.course.Wish.{Wish}
 use Rattle.dsql_history.specs.course.Made.{Exchange}
 use Rattle.dsql_history.specs.journal.declared.entry.Entry.{Entry}
 use Rattle.dsql_history.specs.works.Exchanges.{step_of, with_exchange}
-use Rattle.dsql_history.specs.works.Line.{Asked}
+use Rattle.dsql_history.specs.works.Line.{Asked, body_after}
 use Rattle.dsql_history.specs.Readers.Lines.{is_about, has_sent}
 use Rattle.dsql_history.specs.Rules.Line.{is_due}
-use Rattle.dsql_history.specs.Rules.Sent.{untested, body_after}
+use Rattle.dsql_history.specs.Rules.Sent.{untested}
 use Rattle.dsql_laws_tenures.specs.Orderly.{asks_text, gives_cursor, gives_handle}
 use Rattle.dsql_laws_tenures.specs.Tenures.{made_by}
 

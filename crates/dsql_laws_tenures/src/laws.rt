@@ -14,12 +14,12 @@ ghost use Rattle.dsql_history.specs.journal.Tenure.{is_whole_tenure};
 ghost use Rattle.dsql_history.specs.journal.declared.entry.Entry.{Entry};
 ghost use Rattle.dsql_history.specs.Readers.Lines.{has_cursor, has_handle, is_about, line_among};
 ghost use Rattle.dsql_history.specs.Rules.Line.{is_due};
-ghost use Rattle.dsql_history.specs.Rules.Sent.{body_after, inner_after, untested};
+ghost use Rattle.dsql_history.specs.Rules.Sent.{inner_after, untested};
 ghost use Rattle.dsql_laws_tenures.specs.Orderly.{asks_text, is_in_order, opens_once, prepares_once, OpensOnce, PreparesOnce};
 ghost use Rattle.dsql_laws_tenures.specs.Sent.{Grows, IsSentIn, KeepsLines, WasSent};
 ghost use Rattle.dsql_laws_tenures.specs.Tenures.{made_by, GoesOn, HasLiveCursor, HasLiveHandle, IsBegun, IsIn, IsOfTransaction};
 ghost use Rattle.dsql_history.specs.works.Exchanges.{step_of};
-ghost use Rattle.dsql_history.specs.works.Line.{Asked, handed};
+ghost use Rattle.dsql_history.specs.works.Line.{Asked, handed, body_after};
 
 /// A cursor or a handle that a call's line has is live, and is the only one of its number. It was opened in
 /// that tenure and in that transaction, and a cursor isn't over unless the line ended its rows.

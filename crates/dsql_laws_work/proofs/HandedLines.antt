@@ -62,7 +62,7 @@ of_test w false q over o h = absurd cc
 
 -- If a row is wanted of open rows, the test doesn't come next: the rows would be fetched from.
 not_done : (can : Caps) (text : List ℕ) (params : List Param) (made : List Exchange) (rows : ℕ) → own_cursor made ≡ Some rows → rows_are_over made ≡ false
-    → body_after can (asking text params aims.HandOut) wishes.Fetch made ≡ test_of can → ⊥
+    → body_after can false (asking text params aims.HandOut) wishes.Fetch made ≡ test_of can → ⊥
 not_done can text params made rows cursor over done = by_can can.validator (rw (cursor, over) at done)
   where
     by_can : (b : Bool) → Some (Next rows) ≡ cond b (Some Valid) None → ⊥
@@ -74,7 +74,7 @@ is_true true h = refl
 is_true false h = absurd (h refl)
 
 handing : (can : Caps) (text : List ℕ) (params : List Param) (w : Wish) (s : Step) (made : List Exchange) (q : DriverCall) (rows : ℕ) → own_cursor made ≡ Some rows
-    → MadeAt can (asking text params aims.HandOut) s made → is_ended s ≡ false → is_due (body_after can (asking text params aims.HandOut) w made) q ≡ true
+    → MadeAt can (asking text params aims.HandOut) s made → is_ended s ≡ false → is_due (body_after can false (asking text params aims.HandOut) w made) q ≡ true
     → SentOver q w (rows_are_over made)
 handing can text params w WasSkipped made q rows h m e d = absurd (none_some (own_cursor made) rows (ap own_cursor m.0) h)
 handing can text params w (WasPrepared handle) made q rows h m e d = absurd (none_some (own_cursor made) rows m.none h)
@@ -93,7 +93,7 @@ handing can text params w IsOther made q rows h m e d = absurd m
 handing can text params w _ made q rows h m e d = absurd (none_some (own_cursor made) rows (ap own_cursor m) h)
 
 over_rows : (can : Caps) (text : List ℕ) (params : List Param) (aim : Aim) (w : Wish) (s : Step) (made : List Exchange) (q : DriverCall) (rows : ℕ) → handed aim made ≡ Some rows
-    → MadeAt can (asking text params aim) s made → is_ended s ≡ false → is_due (body_after can (asking text params aim) w made) q ≡ true → SentOver q w (rows_are_over made)
+    → MadeAt can (asking text params aim) s made → is_ended s ≡ false → is_due (body_after can false (asking text params aim) w made) q ≡ true → SentOver q w (rows_are_over made)
 over_rows can text params aims.HandOut w s made q rows h m e d = handing can text params w s made q rows h m e d
 over_rows can text params _ w s made q rows h m e d = absurd (cc)
 
@@ -103,7 +103,7 @@ pub due_over : (can : Caps) (reset : Bool) (asked : Asked) (w : Wish) (L : List 
 due_over can reset asked w [] q rows h m d = absurd (none_handed asked.aim [] rows refl h)
 due_over can reset asked w (e ∷ earlier) q rows h m d = by_end (is_bad e.answer || is_valid e.call) refl d
   where
-    by_end : (b : Bool) → is_bad e.answer || is_valid e.call ≡ b → is_due (cond b None (body_after can asked w (exchanges (e ∷ earlier)))) q ≡ true
+    by_end : (b : Bool) → is_bad e.answer || is_valid e.call ≡ b → is_due (cond b None (body_after can false asked w (exchanges (e ∷ earlier)))) q ≡ true
         → SentOver q w (rows_are_over (exchanges (e ∷ earlier)))
     by_end true is k = absurd cc
     by_end false is k =
@@ -151,7 +151,7 @@ some_open wishes.Nothing rows wanted = absurd (wanted refl)
 some_open _ rows wanted = refl
 
 held_body : (can : Caps) (text : List ℕ) (params : List Param) (aim : Aim) (w : Wish) (s : Step) (made : List Exchange) (rows : ℕ) → handed aim made ≡ Some rows
-    → MadeAt can (asking text params aim) s made → is_holding s ≡ true → (w ≡ wishes.Nothing → ⊥) → is_some (body_after can (asking text params aim) w made) ≡ true
+    → MadeAt can (asking text params aim) s made → is_holding s ≡ true → (w ≡ wishes.Nothing → ⊥) → is_some (body_after can false (asking text params aim) w made) ≡ true
 held_body can text params aims.HandOut w (HasRows own cursor) made rows h m holds wanted = rw (sends_open can text params w own cursor (due.Next cursor) made m) (some_open w cursor wanted)
 held_body can text params aims.HandOut w (HasRead own cursor false) made rows h m holds wanted =
     rw (sends_open can text params w own cursor (due.CloseRows cursor) made m) (some_open w cursor wanted)
@@ -167,6 +167,6 @@ pub held_due : (can : Caps) (reset : Bool) (asked : Asked) (w : Wish) (L : List 
 held_due can reset asked w [] rows h m holds wanted = absurd cc
 held_due can reset asked w (e ∷ earlier) rows h m holds wanted = by_end (is_bad e.answer || is_valid e.call) refl
   where
-    by_end : (b : Bool) → is_bad e.answer || is_valid e.call ≡ b → is_some (cond b None (body_after can asked w (exchanges (e ∷ earlier)))) ≡ true
+    by_end : (b : Bool) → is_bad e.answer || is_valid e.call ≡ b → is_some (cond b None (body_after can false asked w (exchanges (e ∷ earlier)))) ≡ true
     by_end true is = absurd (ended_holding (step earlier) e.call e.answer is holds)
     by_end false is = held_body can asked.text asked.params asked.aim w (step (e ∷ earlier)) (exchanges (e ∷ earlier)) rows h m holds wanted

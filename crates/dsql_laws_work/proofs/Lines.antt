@@ -62,21 +62,21 @@ pub due_while : (can : Caps) (reset : Bool) (asked : Asked) (w : Wish) (L : List
 due_while can reset asked w [] h = refl
 due_while can reset asked w (e ∷ earlier) h = by_end (is_bad e.answer || is_valid e.call) h
   where
-    by_end : (b : Bool) → is_some (cond b None (body_after can asked w (exchanges (e ∷ earlier)))) ≡ true → b ≡ false
+    by_end : (b : Bool) → is_some (cond b None (body_after can false asked w (exchanges (e ∷ earlier)))) ≡ true → b ≡ false
     by_end true k = absurd cc
     by_end false k = refl
 
 -- A driver call that is due after an entry is what the course sends.
 pub body_due : (can : Caps) (reset : Bool) (asked : Asked) (w : Wish) (e : Entry) (earlier : List Entry) (call : DriverCall) → is_due (line_after can reset asked w (e ∷ earlier)) call ≡ true
-    → (is_bad e.answer || is_valid e.call ≡ false) × (is_due (body_after can asked w (exchanges (e ∷ earlier))) call ≡ true)
+    → (is_bad e.answer || is_valid e.call ≡ false) × (is_due (body_after can false asked w (exchanges (e ∷ earlier))) call ≡ true)
 body_due can reset asked w e earlier call h = by_end (is_bad e.answer || is_valid e.call) h
   where
-    by_end : (b : Bool) → is_due (cond b None (body_after can asked w (exchanges (e ∷ earlier)))) call ≡ true
-        → (b ≡ false) × (is_due (body_after can asked w (exchanges (e ∷ earlier))) call ≡ true)
+    by_end : (b : Bool) → is_due (cond b None (body_after can false asked w (exchanges (e ∷ earlier)))) call ≡ true
+        → (b ≡ false) × (is_due (body_after can false asked w (exchanges (e ∷ earlier))) call ≡ true)
     by_end true k = absurd cc
     by_end false k = (refl, k)
 
-first_due : (can : Caps) (reset : Bool) (asked : Asked) (w : Wish) (call : DriverCall) → is_due (cond reset (Some Reset) (body_after can asked w [])) call ≡ true → goes Start call ≡ true
+first_due : (can : Caps) (reset : Bool) (asked : Asked) (w : Wish) (call : DriverCall) → is_due (cond reset (Some Reset) (body_after can false asked w [])) call ≡ true → goes Start call ≡ true
 first_due can true asked w Reset h = refl
 first_due can true asked w _ h = absurd cc
 first_due can false asked w call h = goes_body can asked w Start [] call refl refl h
@@ -89,7 +89,7 @@ goes_due can reset asked w (e ∷ earlier) call made h =
     let k = body_due can reset asked w e earlier call h in
     goes_body can asked w (step (e ∷ earlier)) (exchanges (e ∷ earlier)) call (ended_by (step earlier) e.call e.answer k.0) made k.1
 
-first_made : (can : Caps) (reset : Bool) (asked : Asked) (w : Wish) (q : DriverCall) (a : DriverAnswer) → is_due (cond reset (Some Reset) (body_after can asked w [])) q ≡ true
+first_made : (can : Caps) (reset : Bool) (asked : Asked) (w : Wish) (q : DriverCall) (a : DriverAnswer) → is_due (cond reset (Some Reset) (body_after can false asked w [])) q ≡ true
     → (fits_of q a && not (is_memory a)) ≡ true → MadeAt can asked (step_after Start q a) (with_exchange (step_of q) a [])
 first_made can true asked w Reset a h fit = made_reset can asked a
 first_made can true asked w _ a h fit = absurd cc
@@ -142,7 +142,7 @@ none_left t n can reset asked w (e ∷ earlier) so made none free not_bad = by_v
     by_valid true is = valid_clean t n (step earlier) e.call e.answer (e ∷ earlier) is not_bad so
     by_valid false is =
         let going : is_bad e.answer || is_valid e.call ≡ false = both_not (is_bad e.answer) (is_valid e.call) not_bad is in
-        let over : is_none (body_after can asked w (exchanges (e ∷ earlier))) ≡ true = rw going at none in
+        let over : is_none (body_after can false asked w (exchanges (e ∷ earlier))) ≡ true = rw going at none in
         clean_left t n (step (e ∷ earlier)) (e ∷ earlier) (clean_when_done can asked w (step (e ∷ earlier)) (exchanges (e ∷ earlier)) made over free)
         (ended_not (step (e ∷ earlier)) (ended_by (step earlier) e.call e.answer going)) so
 

@@ -25,13 +25,13 @@ use Rattle.dsql_history_work.specs.declared.work.Aim.TheVariants as aims
 use Rattle.dsql_history_work.specs.course.declared.course.Wish.{Wish}
 use Rattle.dsql_history_work.specs.course.declared.course.Wish.TheVariants as wishes
 use Rattle.dsql_history_work.specs.course.Rows.{closing_next}
-use Rattle.dsql_history_work.specs.Line.{Asked, course_of, run_for, run_of, going_on, sent_as, test_of, handed, body_after, is_due}
+use Rattle.dsql_history_work.specs.Line.{Asked, course_of, run_for, run_of, found, sent_as, test_of, handed, body_after, is_due}
 use Rattle.dsql_laws_work.proofs.KeptRows.{keeps, keeps_rows}
 use Rattle.dsql_laws_work.proofs.CallLines.{Step, Start, WasReset, WasSkipped, WasPrepared, HasRows, HasRead, WasRun, WasDone, WasTested, WasDropped, IsOther, step_after, read_after, freed_after, left_of, goes}
 
 -- Returns the next step of its course.
 abbrev pub next_of : Caps → Asked → List Exchange → Due
-next_of can asked made = comes_next (course_of asked.aim) can (length asked.params) going_on made
+next_of can asked made = comes_next (course_of asked.aim) can (length asked.params) (found false) made
 
 -- Is true if a call with this aim has a text.
 abbrev pub has_text : Aim → Bool
@@ -57,7 +57,7 @@ queries_it _ = true
 -- Holds if this is what the course sends next for a call that reads one row itself. It holds for every other
 -- call.
 abbrev pub SendsRow : Aim → Caps → ℕ → List Exchange → Due → Type 0
-SendsRow aims.ReadOne can args made call = comes_next courses.One can args going_on made ≡ call
+SendsRow aims.ReadOne can args made call = comes_next courses.One can args (found false) made ≡ call
 SendsRow _ can args made call = Unit {0}
 
 -- Holds if its run gave a cursor, over a handle of its own or over none, and the cursor is over or not. A call
@@ -73,7 +73,7 @@ pub record MadeRows (can : Caps) (asked : Asked) (own : Option ℕ) (rows : ℕ)
 
 -- Holds if only its handle is left. Rows that it handed out are over, whatever is wanted of them.
 pub record MadeRun (can : Caps) (asked : Asked) (handle : ℕ) (made : List Exchange) : Type 0 where
-  pub sends : (w : Wish) → body_after can asked w made ≡ Some (CloseStmt handle)
+  pub sends : (w : Wish) → body_after can false asked w made ≡ Some (CloseStmt handle)
   pub is_over : (rows : ℕ) → handed asked.aim made ≡ Some rows → rows_are_over made ≡ true
 
 -- Holds if these are the exchanges of a tenure at this step.
@@ -83,7 +83,7 @@ MadeAt can asked (WasPrepared handle) made = MadeHandle asked handle made
 MadeAt can asked (HasRows own rows) made = MadeRows can asked own rows false (due.Next rows) made
 MadeAt can asked (HasRead own rows over) made = MadeRows can asked own rows over (due.CloseRows rows) made
 MadeAt can asked (WasRun handle) made = MadeRun can asked handle made
-MadeAt can asked WasDone made = (w : Wish) → body_after can asked w made ≡ test_of can
+MadeAt can asked WasDone made = (w : Wish) → body_after can false asked w made ≡ test_of can
 MadeAt can asked WasTested made = Unit {0}
 MadeAt can asked WasDropped made = Unit {0}
 MadeAt can asked IsOther made = ⊥
@@ -141,7 +141,7 @@ no_rows : (aim : Aim) (made : List Exchange) → own_cursor made ≡ None → ha
 no_rows aims.HandOut made none = none
 no_rows _ made none = refl
 
-pub body_before : (can : Caps) (asked : Asked) (w : Wish) (made : List Exchange) → own_cursor made ≡ None → body_after can asked w made ≡ sent_as can asked (next_of can asked made)
+pub body_before : (can : Caps) (asked : Asked) (w : Wish) (made : List Exchange) → own_cursor made ≡ None → body_after can false asked w made ≡ sent_as can asked (next_of can asked made)
 body_before can asked w made none = rw (no_rows asked.aim made none) refl
 
 -- Only a call that executes its text sends an Exec, and it sends no Query.
@@ -300,7 +300,7 @@ goes_free own rows (CloseRows other) h = (h, λ over. by_over over)
     by_over false = h
 goes_free own rows _ h = absurd cc
 
-first_goes : (can : Caps) (asked : Asked) (w : Wish) (call : DriverCall) → is_due (body_after can asked w []) call ≡ true → (goes Start call ≡ true) × (goes WasReset call ≡ true)
+first_goes : (can : Caps) (asked : Asked) (w : Wish) (call : DriverCall) → is_due (body_after can false asked w []) call ≡ true → (goes Start call ≡ true) × (goes WasReset call ≡ true)
 first_goes can asked w call h = by_aim asked.aim (rw (body_before can asked w [] refl, first_of can asked.text asked.params asked.aim) at h)
   where
     by_fast : (b : Bool) → is_due (sent_as can asked (cond b due.Text due.Prepare)) call ≡ true → (goes Start call ≡ true) × (goes WasReset call ≡ true)
@@ -317,13 +317,13 @@ first_goes can asked w call h = by_aim asked.aim (rw (body_before can asked w []
     by_aim aims.ReadOne k = by_fast (has_fast_way courses.One can) k
     by_aim aims.HandOut k = by_fast (has_fast_way courses.Query can) k
 
-second_goes : (can : Caps) (asked : Asked) (w : Wish) (call : DriverCall) → has_text asked.aim ≡ true → is_due (body_after can asked w ((due.Text, got.Skip) ∷ [])) call ≡ true → goes WasSkipped call ≡ true
+second_goes : (can : Caps) (asked : Asked) (w : Wish) (call : DriverCall) → has_text asked.aim ≡ true → is_due (body_after can false asked w ((due.Text, got.Skip) ∷ [])) call ≡ true → goes WasSkipped call ≡ true
 second_goes can asked w call texts h =
     let k : is_due (sent_as can asked due.Prepare) call ≡ true =
     rw (body_before can asked w ((due.Text, got.Skip) ∷ []) refl, second_of can asked.text asked.params asked.aim texts) at h in
     let g = goes_prepare asked.text call k in g.2
 
-handle_goes : (can : Caps) (asked : Asked) (w : Wish) (handle : ℕ) (made : List Exchange) (call : DriverCall) → MadeHandle asked handle made → is_due (body_after can asked w made) call ≡ true
+handle_goes : (can : Caps) (asked : Asked) (w : Wish) (handle : ℕ) (made : List Exchange) (call : DriverCall) → MadeHandle asked handle made → is_due (body_after can false asked w made) call ≡ true
     → goes (WasPrepared handle) call ≡ true
 handle_goes can asked w handle made call m h =
     by_count (is_none (count_fault m.inputs (length asked.params)))
@@ -340,12 +340,12 @@ open_sends wishes.Fetch rows = Some (Next rows)
 open_sends wishes.Close rows = Some (CloseRows rows)
 
 pub sends_open : (can : Caps) (text : List ℕ) (params : List Param) (w : Wish) (own : Option ℕ) (rows : ℕ) (it : Due) (made : List Exchange)
-    → MadeRows can (asking text params aims.HandOut) own rows false it made → body_after can (asking text params aims.HandOut) w made ≡ open_sends w rows
+    → MadeRows can (asking text params aims.HandOut) own rows false it made → body_after can false (asking text params aims.HandOut) w made ≡ open_sends w rows
 sends_open can text params wishes.Close own rows it made m = rw (m.cursor, m.is_over, m.closing) refl
 sends_open can text params _ own rows it made m = rw (m.cursor, m.is_over) refl
 
 pub sends_over : (can : Caps) (text : List ℕ) (params : List Param) (w : Wish) (own : Option ℕ) (rows : ℕ) (it : Due) (made : List Exchange)
-    → MadeRows can (asking text params aims.HandOut) own rows true it made → body_after can (asking text params aims.HandOut) w made ≡ Some (CloseRows rows)
+    → MadeRows can (asking text params aims.HandOut) own rows true it made → body_after can false (asking text params aims.HandOut) w made ≡ Some (CloseRows rows)
 sends_over can text params w own rows it made m = rw (m.cursor, m.is_over, m.closing) refl
 
 -- What is wanted of open rows may be sent at their step.
@@ -355,13 +355,13 @@ open_goes wishes.Fetch own rows call h = goes_next own rows call h
 open_goes wishes.Close own rows call h = let g = goes_free own rows call h in (g.0, g.1 false)
 
 rows_go : (can : Caps) (text : List ℕ) (params : List Param) (aim : Aim) (w : Wish) (own : Option ℕ) (rows : ℕ) (made : List Exchange) (call : DriverCall)
-    → MadeRows can (asking text params aim) own rows false (due.Next rows) made → is_due (body_after can (asking text params aim) w made) call ≡ true → goes (HasRows own rows) call ≡ true
+    → MadeRows can (asking text params aim) own rows false (due.Next rows) made → is_due (body_after can false (asking text params aim) w made) call ≡ true → goes (HasRows own rows) call ≡ true
 rows_go can text params aims.ReadOne w own rows made call m h = let g = goes_next own rows call (rw m.sends at h) in g.0
 rows_go can text params aims.HandOut w own rows made call m h = let g = open_goes w own rows call (rw (sends_open can text params w own rows (due.Next rows) made m) at h) in g.0
 rows_go can text params _ w own rows made call m h = absurd (impossible m.reads)
 
 read_go : (can : Caps) (text : List ℕ) (params : List Param) (aim : Aim) (w : Wish) (own : Option ℕ) (rows : ℕ) (over : Bool) (made : List Exchange) (call : DriverCall)
-    → MadeRows can (asking text params aim) own rows over (due.CloseRows rows) made → is_due (body_after can (asking text params aim) w made) call ≡ true → goes (HasRead own rows over) call ≡ true
+    → MadeRows can (asking text params aim) own rows over (due.CloseRows rows) made → is_due (body_after can false (asking text params aim) w made) call ≡ true → goes (HasRead own rows over) call ≡ true
 read_go can text params aims.Execute w own rows over made call m h = absurd (impossible m.reads)
 read_go can text params aims.Ping w own rows over made call m h = absurd (impossible m.reads)
 read_go can text params aims.ReadOne w own rows over made call m h = let g = goes_free own rows call (rw m.sends at h) in g.1 over
@@ -370,7 +370,7 @@ read_go can text params aims.HandOut w own rows false made call m h =
     let g = open_goes w own rows call (rw (sends_open can text params w own rows (due.CloseRows rows) made m) at h) in g.1
 
 pub goes_body : (can : Caps) (asked : Asked) (w : Wish) (s : Step) (made : List Exchange) (call : DriverCall) → is_ended s ≡ false → MadeAt can asked s made
-    → is_due (body_after can asked w made) call ≡ true → goes s call ≡ true
+    → is_due (body_after can false asked w made) call ≡ true → goes s call ≡ true
 goes_body can asked w Start made call e m h = let g = first_goes can asked w call (rw m at h) in g.0
 goes_body can asked w WasReset made call e m h = let g = first_goes can asked w call (rw m at h) in g.1
 goes_body can asked w WasSkipped made call e m h = second_goes can asked w call m.1 (rw m.0 at h)
@@ -401,25 +401,25 @@ sent_or_kept wishes.Fetch rows h k = cc
 sent_or_kept wishes.Close rows h k = cc
 
 open_left : (can : Caps) (text : List ℕ) (params : List Param) (w : Wish) (own : Option ℕ) (rows : ℕ) (it : Due) (made : List Exchange)
-    → MadeRows can (asking text params aims.HandOut) own rows false it made → is_none (body_after can (asking text params aims.HandOut) w made) ≡ true
+    → MadeRows can (asking text params aims.HandOut) own rows false it made → is_none (body_after can false (asking text params aims.HandOut) w made) ≡ true
     → keeps_rows aims.HandOut w made ≡ false → ⊥
 open_left can text params w own rows it made m h k = sent_or_kept w rows (rw (sends_open can text params w own rows it made m) at h) (rw (m.cursor, m.is_over) at k)
 
 rows_left : (can : Caps) (text : List ℕ) (params : List Param) (aim : Aim) (w : Wish) (own : Option ℕ) (rows : ℕ) (made : List Exchange)
-    → MadeRows can (asking text params aim) own rows false (due.Next rows) made → is_none (body_after can (asking text params aim) w made) ≡ true → keeps_rows aim w made ≡ false → ⊥
+    → MadeRows can (asking text params aim) own rows false (due.Next rows) made → is_none (body_after can false (asking text params aim) w made) ≡ true → keeps_rows aim w made ≡ false → ⊥
 rows_left can text params aims.ReadOne w own rows made m h k = let n = rw m.sends at h in cc
 rows_left can text params aims.HandOut w own rows made m h k = open_left can text params w own rows (due.Next rows) made m h k
 rows_left can text params _ w own rows made m h k = impossible m.reads
 
 read_left : (can : Caps) (text : List ℕ) (params : List Param) (aim : Aim) (w : Wish) (own : Option ℕ) (rows : ℕ) (over : Bool) (made : List Exchange)
-    → MadeRows can (asking text params aim) own rows over (due.CloseRows rows) made → is_none (body_after can (asking text params aim) w made) ≡ true → keeps_rows aim w made ≡ false → ⊥
+    → MadeRows can (asking text params aim) own rows over (due.CloseRows rows) made → is_none (body_after can false (asking text params aim) w made) ≡ true → keeps_rows aim w made ≡ false → ⊥
 read_left can text params aims.Execute w own rows over made m h k = impossible m.reads
 read_left can text params aims.Ping w own rows over made m h k = impossible m.reads
 read_left can text params aims.ReadOne w own rows over made m h k = let n = rw m.sends at h in cc
 read_left can text params aims.HandOut w own rows true made m h k = let n = rw (sends_over can text params w own rows (due.CloseRows rows) made m) at h in cc
 read_left can text params aims.HandOut w own rows false made m h k = open_left can text params w own rows (due.CloseRows rows) made m h k
 
-pub clean_when_done : (can : Caps) (asked : Asked) (w : Wish) (s : Step) (made : List Exchange) → MadeAt can asked s made → is_none (body_after can asked w made) ≡ true
+pub clean_when_done : (can : Caps) (asked : Asked) (w : Wish) (s : Step) (made : List Exchange) → MadeAt can asked s made → is_none (body_after can false asked w made) ≡ true
     → keeps_rows asked.aim w made ≡ false → is_clean s ≡ true
 clean_when_done can asked w (WasPrepared handle) made m h k =
     absurd (some_run can asked (is_none (count_fault m.inputs (length asked.params))) handle

@@ -45,7 +45,7 @@ not_pinged h = cc
 
 -- A call whose first driver call is neither a Ping nor a test has a text.
 first_has_text : (can : Caps) (text : List ℕ) (params : List Param) (aim : Aim) (w : Wish) (q : DriverCall) → is_ping q || is_valid q ≡ false
-    → is_due (body_after can (asking text params aim) w []) q ≡ true → has_text aim ≡ true
+    → is_due (body_after can false (asking text params aim) w []) q ≡ true → has_text aim ≡ true
 first_has_text can text params aims.Ping w q other h =
     by_can can.pinger q other (rw (body_before can (asking text params aims.Ping) w [] refl, first_of can text params aims.Ping) at h)
   where
@@ -66,7 +66,7 @@ text_first can aims.Ping h = absurd cc
 text_first can _ h = refl
 
 has_fast : (can : Caps) (text : List ℕ) (params : List Param) (aim : Aim) (w : Wish) (q : DriverCall) → has_text aim ≡ true → ((t : List ℕ) → is_due (Some (Prepare t)) q ≡ false)
-    → is_due (body_after can (asking text params aim) w []) q ≡ true → has_fast_way (course_of aim) can ≡ true
+    → is_due (body_after can false (asking text params aim) w []) q ≡ true → has_fast_way (course_of aim) can ≡ true
 has_fast can text params aim w q texts not_prepare h =
     by_fast (has_fast_way (course_of aim) can) (rw (body_before can (asking text params aim) w [] refl, first_of can text params aim, text_first can aim texts) at h)
   where
@@ -75,7 +75,7 @@ has_fast can text params aim w q texts not_prepare h =
     by_fast false k = let n = not_prepare text in absurd cc
 
 text_executed : (can : Caps) (text : List ℕ) (params : List Param) (aim : Aim) (w : Wish) (s : Step) (t : List ℕ) (ps : List Param) (a : DriverAnswer)
-    → is_due (body_after can (asking text params aim) w []) (Exec (Text t) ps) ≡ true → (fits_of (Exec (Text t) ps) a && not (is_memory a)) ≡ true
+    → is_due (body_after can false (asking text params aim) w []) (Exec (Text t) ps) ≡ true → (fits_of (Exec (Text t) ps) a && not (is_memory a)) ≡ true
     → MadeAt can (asking text params aim) (step_after s (Exec (Text t) ps) a) ((due.Text, got_of a) ∷ [])
 text_executed can text params aims.ReadOne w s t ps a h fit =
     let k = executes can (asking text params aims.ReadOne) (next_of can (asking text params aims.ReadOne) []) (Text t) ps h in absurd (not_executed k)
@@ -94,7 +94,7 @@ text_gave_rows : (can : Caps) (args rows : ℕ) → closing_next can args ((due.
 text_gave_rows can args rows = let laws = rows_are_closed in laws.cursor can args rows (due.Text, got.Cursor rows) [] refl refl refl
 
 text_queried : (can : Caps) (text : List ℕ) (params : List Param) (aim : Aim) (w : Wish) (s : Step) (t : List ℕ) (ps : List Param) (a : DriverAnswer)
-    → is_due (body_after can (asking text params aim) w []) (Query (Text t) ps) ≡ true → (fits_of (Query (Text t) ps) a && not (is_memory a)) ≡ true
+    → is_due (body_after can false (asking text params aim) w []) (Query (Text t) ps) ≡ true → (fits_of (Query (Text t) ps) a && not (is_memory a)) ≡ true
     → MadeAt can (asking text params aim) (step_after s (Query (Text t) ps) a) ((due.Text, got_of a) ∷ [])
 text_queried can text params aims.Execute w s t ps a h fit = absurd (not_queried can text params (next_of can (asking text params aims.Execute) []) (Text t) ps h)
 text_queried can text params aims.Ping w s t ps a h fit = absurd (impossible (first_has_text can text params aims.Ping w (Query (Text t) ps) refl h))
@@ -131,7 +131,7 @@ prepared_next can text params aim s t Bad made texts own none good unread fit = 
 prepared_next can text params aim s t _ made texts own none good unread fit = absurd (impossible fit)
 
 -- What is due after the handle was prepared is what the course sends.
-handle_due : (can : Caps) (asked : Asked) (w : Wish) (handle : ℕ) (q : DriverCall) (made : List Exchange) → MadeHandle asked handle made → is_due (body_after can asked w made) q ≡ true
+handle_due : (can : Caps) (asked : Asked) (w : Wish) (handle : ℕ) (q : DriverCall) (made : List Exchange) → MadeHandle asked handle made → is_due (body_after can false asked w made) q ≡ true
     → is_due (sent_as can asked (next_of can asked made)) q ≡ true
 handle_due can asked w handle q made m h = rw (body_before can asked w made m.none) at h
 
@@ -139,7 +139,7 @@ no_cursor : (made : List Exchange) (rows : ℕ) → own_cursor made ≡ None →
 no_cursor made rows none is = cc
 
 handle_executed : (can : Caps) (text : List ℕ) (params : List Param) (aim : Aim) (w : Wish) (s : Step) (handle : ℕ) (ps : List Param) (a : DriverAnswer) (made : List Exchange)
-    → MadeHandle (asking text params aim) handle made → is_due (body_after can (asking text params aim) w made) (Exec (Handle handle) ps) ≡ true
+    → MadeHandle (asking text params aim) handle made → is_due (body_after can false (asking text params aim) w made) (Exec (Handle handle) ps) ≡ true
     → (fits_of (Exec (Handle handle) ps) a && not (is_memory a)) ≡ true → MadeAt can (asking text params aim) (step_after s (Exec (Handle handle) ps) a) ((due.Handle handle, got_of a) ∷ made)
 handle_executed can text params aims.ReadOne w s handle ps a made m h fit =
     let k = executes can (asking text params aims.ReadOne) (next_of can (asking text params aims.ReadOne) made) (Handle handle) ps h in absurd (not_executed k)
@@ -157,7 +157,7 @@ handle_gave_rows : (can : Caps) (args handle rows : ℕ) (made : List Exchange) 
 handle_gave_rows can args handle rows made good = let laws = rows_are_closed in laws.cursor can args rows (due.Handle handle, got.Cursor rows) made refl good refl
 
 handle_queried : (can : Caps) (text : List ℕ) (params : List Param) (aim : Aim) (w : Wish) (s : Step) (handle : ℕ) (ps : List Param) (a : DriverAnswer) (made : List Exchange)
-    → MadeHandle (asking text params aim) handle made → is_due (body_after can (asking text params aim) w made) (Query (Handle handle) ps) ≡ true
+    → MadeHandle (asking text params aim) handle made → is_due (body_after can false (asking text params aim) w made) (Query (Handle handle) ps) ≡ true
     → (fits_of (Query (Handle handle) ps) a && not (is_memory a)) ≡ true → MadeAt can (asking text params aim) (step_after s (Query (Handle handle) ps) a) ((due.Handle handle, got_of a) ∷ made)
 handle_queried can text params aims.Execute w s handle ps a made m h fit = absurd (not_queried can text params (next_of can (asking text params aims.Execute) made) (Handle handle) ps h)
 handle_queried can text params aims.Ping w s handle ps a made m h fit = absurd (impossible m.texts)
@@ -285,7 +285,7 @@ handle_left can text params aims.HandOut handle rows over it answer made m n =
     }
 
 nothing_left : (can : Caps) (text : List ℕ) (params : List Param) (aim : Aim) (rows : ℕ) (over : Bool) (it : Due) (answer : Got) (made : List Exchange)
-    → MadeRows can (asking text params aim) None rows over it made → GaveNothing answer → (w : Wish) → body_after can (asking text params aim) w ((due.CloseRows rows, answer) ∷ made) ≡ test_of can
+    → MadeRows can (asking text params aim) None rows over it made → GaveNothing answer → (w : Wish) → body_after can false (asking text params aim) w ((due.CloseRows rows, answer) ∷ made) ≡ test_of can
 nothing_left can text params aims.Execute rows over it answer made m n w = absurd (impossible m.reads)
 nothing_left can text params aims.Ping rows over it answer made m n w = absurd (impossible m.reads)
 nothing_left can text params aims.ReadOne rows over it answer made m n w = rw (n.good, n.handle, m.good, none_left (own_handle made) m.handle) refl
@@ -317,7 +317,7 @@ over_either_way true = refl
 over_either_way false = refl
 
 handed_closed : (can : Caps) (text : List ℕ) (params : List Param) (w : Wish) (handle : ℕ) (answer : Got) (made : List Exchange) (x : Option ℕ) → own_cursor made ≡ x → GaveNothing answer
-    → ((rows : ℕ) → own_cursor made ≡ Some rows → rows_are_over made ≡ true) → body_after can (asking text params aims.HandOut) w ((due.CloseStmt handle, answer) ∷ made) ≡ test_of can
+    → ((rows : ℕ) → own_cursor made ≡ Some rows → rows_are_over made ≡ true) → body_after can false (asking text params aims.HandOut) w ((due.CloseStmt handle, answer) ∷ made) ≡ test_of can
 handed_closed can text params w handle answer made None is n ends =
     rw (n.cursor, is) (ap (sent_as can (asking text params aims.HandOut)) (over_either_way (went_bad ((due.CloseStmt handle, answer) ∷ made))))
 handed_closed can text params w handle answer made (Some rows) is n ends =
@@ -325,7 +325,7 @@ handed_closed can text params w handle answer made (Some rows) is n ends =
     rw (n.cursor, is, ends rows is, laws.last can (length params) handle answer made) refl
 
 closed_over : (can : Caps) (text : List ℕ) (params : List Param) (aim : Aim) (handle : ℕ) (answer : Got) (made : List Exchange) → GaveNothing answer
-    → ((rows : ℕ) → handed aim made ≡ Some rows → rows_are_over made ≡ true) → (w : Wish) → body_after can (asking text params aim) w ((due.CloseStmt handle, answer) ∷ made) ≡ test_of can
+    → ((rows : ℕ) → handed aim made ≡ Some rows → rows_are_over made ≡ true) → (w : Wish) → body_after can false (asking text params aim) w ((due.CloseStmt handle, answer) ∷ made) ≡ test_of can
 closed_over can text params aims.HandOut handle answer made n ends w = handed_closed can text params w handle answer made (own_cursor made) refl n ends
 closed_over can text params x handle answer made n ends w =
     ap (sent_as can (asking text params x)) (over_either_way (went_bad ((due.CloseStmt handle, answer) ∷ made)))
@@ -344,7 +344,7 @@ none_handed _ made none rows is = absurd cc
 
 -- After a Ping only the test comes, if the driver has one.
 over_behind : (can : Caps) (text : List ℕ) (params : List Param) (aim : Aim) (answer : Got) → GaveNothing answer → (w : Wish)
-    → body_after can (asking text params aim) w ((due.Ping, answer) ∷ []) ≡ test_of can
+    → body_after can false (asking text params aim) w ((due.Ping, answer) ∷ []) ≡ test_of can
 over_behind can text params aims.HandOut answer n w = rw (n.cursor, n.good) refl
 over_behind can text params _ answer n w = rw n.good refl
 
@@ -357,7 +357,7 @@ pinged_next can text params aim s _ fit = absurd (impossible fit)
 
 -- The exchanges after a driver call of the body that is due are those of the next step.
 body_next : (can : Caps) (text : List ℕ) (params : List Param) (aim : Aim) (w : Wish) (s : Step) (q : DriverCall) (a : DriverAnswer) (made : List Exchange) → MadeAt can (asking text params aim) s made
-    → is_due (body_after can (asking text params aim) w made) q ≡ true → goes s q ≡ true → (fits_of q a && not (is_memory a)) ≡ true
+    → is_due (body_after can false (asking text params aim) w made) q ≡ true → goes s q ≡ true → (fits_of q a && not (is_memory a)) ≡ true
     → MadeAt can (asking text params aim) (step_after s q a) (with_exchange (step_of q) a made)
 body_next can text params aim w Start (Exec (Text t) ps) a made m h g fit = rw m (text_executed can text params aim w Start t ps a (rw m at h) fit)
 body_next can text params aim w WasReset (Exec (Text t) ps) a made m h g fit = rw m (text_executed can text params aim w WasReset t ps a (rw m at h) fit)
@@ -404,7 +404,7 @@ body_next can text params aim w Start Reset a made m h g fit = m
 body_next can text params aim w _ q a made m h g fit = absurd (impossible g)
 
 pub made_next : (can : Caps) (asked : Asked) (w : Wish) (s : Step) (q : DriverCall) (a : DriverAnswer) (made : List Exchange) → is_ended s ≡ false → MadeAt can asked s made
-    → is_due (body_after can asked w made) q ≡ true → (fits_of q a && not (is_memory a)) ≡ true → MadeAt can asked (step_after s q a) (with_exchange (step_of q) a made)
+    → is_due (body_after can false asked w made) q ≡ true → (fits_of q a && not (is_memory a)) ≡ true → MadeAt can asked (step_after s q a) (with_exchange (step_of q) a made)
 made_next can asked w s q a made going m h fit = body_next can asked.text asked.params asked.aim w s q a made m h (goes_body can asked w s made q going m h) fit
 
 -- A Reset comes before all exchanges and adds none.

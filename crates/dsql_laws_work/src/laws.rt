@@ -1,5 +1,5 @@
 //! Laws of a call's tenure. Each is the contract of a function that does nothing.
-ghost use Rattle.std.specs.Prelude.{◌≡◌, ◌∷◌, Bool, true, List, Option, Some, option_map};
+ghost use Rattle.std.specs.Prelude.{◌≡◌, ◌∷◌, Bool, false, true, List, Option, Some, option_map};
 ghost use Rattle.dsql_history_work.specs.course.declared.course.Wish.{Wish};
 ghost use Rattle.dsql_history_work.specs.driver.declared.call.DriverCall.{DriverCall};
 ghost use Rattle.dsql_history_work.specs.driver.declared.caps.Caps.{Caps};
@@ -14,7 +14,7 @@ ghost use Rattle.dsql_history_work.specs.Line.{Asked, body_after, is_due, line_a
 pub fn what_is_due_comes_next()
     ensures { (can : Caps) (reset : Bool) (asked : Asked) (wish : Wish) (e : Entry) (earlier : List Entry)
         (call : DriverCall) → is_due (line_after can reset asked wish (e ∷ earlier)) call ≡ true
-        → is_due (body_after can asked wish (exchanges (e ∷ earlier))) call ≡ true }
+        → is_due (body_after can false asked wish (exchanges (e ∷ earlier))) call ≡ true }
 {}
 
 /// Rows that were ended aren't live.

@@ -1,24 +1,20 @@
 -- Defines which driver call a call sends next on the connection that it uses, in its own line and over rows from a
 -- query.
-use Rattle.std.specs.Prelude.{ℕ, ◌==◌, nat_le, Bool, false, not, ◌&&◌, ◌||◌, cond, List, [], ◌∷◌, length, Option, Some, None, is_none}
+use Rattle.std.specs.Prelude.{ℕ, ◌==◌, nat_le, Bool, false, not, ◌&&◌, ◌||◌, cond, List, [], ◌∷◌, Option, Some, None, is_none}
 use Rattle.dsql_history_work.specs.driver.declared.caps.Caps.{Caps}
 use Rattle.dsql_history_work.specs.driver.declared.call.DriverCall.{DriverCall}
 use Rattle.dsql_history_work.specs.driver.declared.call.DriverCall.TheVariants.{Reset, Begin}
 use Rattle.dsql_history_work.specs.driver.Kinds.{is_bad, is_valid, is_begin}
 use Rattle.dsql_history_work.specs.driver.Fits.{is_done}
-use Rattle.dsql_history_work.specs.course.declared.course.Course.TheVariants as courses
 use Rattle.dsql_history_work.specs.course.declared.course.Wish.{Wish}
 use Rattle.dsql_history_work.specs.course.declared.course.Wish.TheVariants as wishes
-use Rattle.dsql_history_work.specs.course.Made.{Exchange}
-use Rattle.dsql_history_work.specs.course.Line.{Found, comes_next}
-use Rattle.dsql_history_work.specs.course.Rows.{rows_next_of}
 use Rattle.dsql_history_work.specs.journal.declared.entry.Entry.{Entry}
 use Rattle.dsql_history_work.specs.journal.Kinds.{number_of}
 use Rattle.dsql_history_work.specs.journal.Readers.{went_bad}
 use Rattle.dsql_pool.specs.declared.conn.Place.{Place}
 use Rattle.dsql_pool.specs.declared.conn.Place.TheVariants.{Lent}
 use Rattle.dsql_history_work.specs.Exchanges.{exchanges}
-use Rattle.dsql_history_work.specs.Line.{test_of, Asked, course_of, sent_as, sent_over, handed, line_after}
+use Rattle.dsql_history_work.specs.Line.{test_of, Asked, body_after, line_after}
 use Rattle.dsql_history.specs.Rules.Wishes.{wish_as}
 use Rattle.dsql_history.specs.declared.event.Event.{Event}
 use Rattle.dsql_history.specs.declared.work.Scope.{Scope}
@@ -41,21 +37,6 @@ is_reset_due before c = (caps before).resetter && nat_le 2 (uses before c)
 abbrev pub asked_by : List Event → ℕ → Asked
 asked_by before n =
     record { text = (call_record before n).text; params = (call_record before n).params; aim = aim_of (work before n) }
-
--- Returns what is known as a call is made that nothing has stopped.
-abbrev pub found : Bool → Found
-found bad = record { stopped = false; bad = bad }
-
--- Returns the driver call that comes next after these exchanges, on a connection that is known to be bad or
--- isn't. The call's course gives it, and after the call has handed out rows, what is wanted of them.
-abbrev pub body_with : Caps → Bool → Asked → Wish → List Exchange → Option ℕ → Option DriverCall
-body_with can bad asked wish made None =
-    sent_as can asked (comes_next (course_of asked.aim) can (length asked.params) (found bad) made)
-body_with can bad asked wish made (Some rows) =
-    sent_over can asked (rows_next_of courses.Query bad wish can (length asked.params) made rows)
-
-abbrev pub body_after : Caps → Bool → Asked → Wish → List Exchange → Option DriverCall
-body_after can bad asked wish made = body_with can bad asked wish made (handed asked.aim made)
 
 -- Returns the same abilities without the test. A connection is tested as it is given back, so a call in a
 -- transaction doesn't test it.
