@@ -4,8 +4,8 @@ use Rattle.std.specs.Option.{option_map}
 use Rattle.std.specs.Prelude.{if◌then◌else◌, IfOk, IfSome, IfNone, Result, Ok, Err, string_bytes}
 use Rattle.dsql_laws_calls.specs.rows.declared.rows.Rows.{Rows}
 use Rattle.dsql_laws_calls.specs.rows.declared.end.RowsEnd.TheVariants as ends
-use Rattle.dsql_laws_calls.specs.rows.OpenRows.{rows_of, changed, ended_by}
-use Rattle.dsql_laws_calls.specs.numbered.Numbered.{Numbered}
+use Rattle.dsql_laws_calls.specs.rows.OpenRows.{rows_of, ended_by}
+use Rattle.dsql_laws_calls.specs.numbered.Numbered.{Numbered, changed}
 use Rattle.dsql_laws_calls.specs.tx.declared.end.TxEnd.{TxEnd}
 use Rattle.dsql_laws_calls.specs.tx.declared.end.TxEnd.TheVariants as tx_ends
 use Rattle.dsql_laws_calls.specs.tx.declared.tx.Tx.{Tx}

@@ -3,11 +3,11 @@
 use Rattle.std.proofs.Common.{◌≡◌, ℕ, zero, suc, ◌<◌, ◌≤◌, ◌⊎◌, inl, inr, Bool, true, false, ◌&&◌, List, [], ◌∷◌, ◌++◌, length, Option, Some, None, refl, sym, ap, ◌∙◌, arith, le-leb, lt-ltb, eqb-true}
 use Rattle.std.specs.Prelude.{nat_le, nat_lt, position, slice_index_or}
 use Rattle.std.proofs.lemmas.List.Quantifiers.{position-Some}
-use Rattle.dsql_history.specs.numbered.Numbered.{Numbered}
+use Rattle.dsql_history.specs.numbered.Numbered.{Numbered, all_changed}
 use Rattle.dsql_history.specs.rows.declared.end.RowsEnd.TheVariants as ends
 use Rattle.dsql_history.specs.rows.declared.end.RowsEnd.{RowsEnd}
 use Rattle.dsql_history.specs.rows.declared.rows.Rows.{Rows}
-use Rattle.dsql_history.specs.rows.OpenRows.{all_changed, ended_by, is_live}
+use Rattle.dsql_history.specs.rows.OpenRows.{ended_by, is_live}
 use Rattle.dsql_history.specs.tx.declared.end.TxEnd.{TxEnd}
 use Rattle.dsql_history.specs.tx.declared.tx.Tx.{Tx}
 use Rattle.dsql_history.specs.works.Works.{or_zero}

@@ -7,7 +7,8 @@ use Rattle.dsql_history.specs.driver.declared.answer.DriverAnswer.{DriverAnswer}
 use Rattle.dsql_history.specs.driver.declared.answer.DriverAnswer.TheVariants.{Row, End, Fail, Bad}
 use Rattle.dsql_history.specs.rows.declared.rows.Rows.{Rows}
 use Rattle.dsql_history.specs.rows.declared.fault.RowsClosed.{RowsClosed}
-use Rattle.dsql_history.specs.rows.OpenRows.{IsClosedBy, changed, is_live, rows_of, shown}
+use Rattle.dsql_history.specs.numbered.Numbered.{changed}
+use Rattle.dsql_history.specs.rows.OpenRows.{IsClosedBy, is_live, rows_of, shown}
 use Rattle.dsql_history.specs.works.HandedOut.{Made, after_fetch}
 use Rattle.dsql_history.specs.Readers.HandedOut.{fetched}
 use Rattle.dsql_engine_effects.specs.Heard.{is_end}

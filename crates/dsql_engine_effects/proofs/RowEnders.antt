@@ -8,12 +8,12 @@ use Rattle.dsql_history.specs.driver.declared.call.Input.{Input}
 use Rattle.dsql_history.specs.driver.declared.answer.DriverAnswer.{DriverAnswer}
 use Rattle.dsql_history.specs.driver.declared.answer.DriverAnswer.TheVariants as answers
 use Rattle.dsql_history.specs.journal.declared.entry.Entry.{Entry}
-use Rattle.dsql_history.specs.numbered.Numbered.{Numbered, thing_of}
+use Rattle.dsql_history.specs.numbered.Numbered.{Numbered, thing_of, changed}
 use Rattle.dsql_history.proofs.numbered.Numbers.{changes_one_number}
 use Rattle.dsql_history.specs.rows.declared.end.RowsEnd.{RowsEnd}
 use Rattle.dsql_history.specs.rows.declared.end.RowsEnd.TheVariants as ends
 use Rattle.dsql_history.specs.rows.declared.rows.Rows.{Rows}
-use Rattle.dsql_history.specs.rows.OpenRows.{fresh, is_live, rows_of, was_made, changed, ended_by}
+use Rattle.dsql_history.specs.rows.OpenRows.{fresh, is_live, rows_of, was_made, ended_by}
 use Rattle.dsql_history.specs.tx.declared.tx.Tx.{Tx}
 use Rattle.dsql_history.specs.works.HandedOut.{Made, after_fetch}
 use Rattle.dsql_history.specs.Readers.HandedOut.{fetched, live, born, caller, ended_with, ender, handed_out, is_late, last_end, rows_by, rows_heard, rows_entered}

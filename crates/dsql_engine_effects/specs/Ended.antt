@@ -42,7 +42,7 @@ is_such such from works i = nat_le from i && such (slice_index_or works i Look)
 
 -- Returns the rows after those of call i were ended with their transaction, if they were.
 abbrev pub ended_if : Bool → ℕ → Made → Made
-ended_if true i rows = open_rows.changed (open_rows.ended_by ends.TxEnded) i rows
+ended_if true i rows = changed (open_rows.ended_by ends.TxEnded) i rows
 ended_if false i rows = rows
 
 -- Returns the rows after those of calls with such work were ended with their transaction, from one call on and

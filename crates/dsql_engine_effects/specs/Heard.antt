@@ -7,9 +7,9 @@ use Rattle.dsql_history.specs.driver.declared.answer.DriverAnswer.TheVariants as
 use Rattle.dsql_history.specs.value.declared.value.Param.{Param}
 use Rattle.dsql_history.specs.driver.declared.call.Input.{Input}
 use Rattle.dsql_history.specs.journal.declared.entry.Entry.{Entry}
-use Rattle.dsql_history.specs.numbered.Numbered.{Numbered, thing_of}
+use Rattle.dsql_history.specs.numbered.Numbered.{Numbered, thing_of, changed}
 use Rattle.dsql_history.specs.numbered.Numbered as numbered
-use Rattle.dsql_history.specs.rows.OpenRows.{fresh, rows_of, was_made, changed}
+use Rattle.dsql_history.specs.rows.OpenRows.{fresh, rows_of, was_made}
 use Rattle.dsql_history.specs.tx.declared.tx.Tx.{Tx}
 use Rattle.dsql_history.specs.works.HandedOut.{Made}
 use Rattle.dsql_history.specs.Readers.HandedOut.{fetched, live, born}

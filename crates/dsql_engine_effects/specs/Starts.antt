@@ -1,7 +1,8 @@
 -- Defines what is kept of a call that enters.
 use Rattle.std.specs.Prelude.{◌≡◌, ℕ, true, List, Option, Some, None, bytes_eq, if◌then◌else◌, cond, string_bytes, option_map}
 use Rattle.dsql_history.specs.rows.declared.end.RowsEnd.TheVariants as ends
-use Rattle.dsql_history.specs.rows.OpenRows.{was_made, ended_by, changed, rows_of}
+use Rattle.dsql_history.specs.numbered.Numbered.{changed}
+use Rattle.dsql_history.specs.rows.OpenRows.{was_made, ended_by, rows_of}
 use Rattle.dsql_history.specs.works.HandedOut.{Made}
 use Rattle.dsql_history.specs.tx.declared.end.TxEnd.{TxEnd}
 use Rattle.dsql_history.specs.Readers.HandedOut.{live, handed_out, rows_entered}

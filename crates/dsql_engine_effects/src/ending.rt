@@ -1,9 +1,8 @@
 //! What the end of a transaction, and the end of the run, do to the calls, the rows and the transactions.
 ghost use Rattle.std.specs.Prelude.{◌≡◌, ◌&&◌, vec_len, vec_capacity};
-ghost use Rattle.dsql_history.specs.numbered.Numbered.{thing_of};
-ghost use Rattle.dsql_history.specs.numbered.Numbered as things;
+ghost use Rattle.dsql_history.specs.numbered.Numbered.{thing_of, all_changed, changed};
 ghost use Rattle.dsql_history.specs.rows.declared.end.RowsEnd.TheVariants as rows_ends;
-ghost use Rattle.dsql_history.specs.rows.OpenRows.{all_changed, changed, ended_by, rows_of};
+ghost use Rattle.dsql_history.specs.rows.OpenRows.{ended_by, rows_of};
 ghost use Rattle.dsql_history.specs.tx.declared.end.TxEnd.TheVariants as tx_ends;
 ghost use Rattle.dsql_history.specs.tx.Transactions as transactions;
 ghost use Rattle.dsql_history.specs.Readers.HandedOut.{live};
@@ -43,7 +42,7 @@ pub fn end_tx(
 /// Ends a transaction if one was begun and nothing has ended it. Returns `true` if it did.
 fn end_alone(txs: &mut Txs, tx: u32, by: TxEnd) -> bool
     ensures ended { result ≡ going (thing_of tx txs.old.txs) }
-    ensures txs { txs.new.txs ≡ things.changed (transactions.ended_by by) tx txs.old.txs }
+    ensures txs { txs.new.txs ≡ changed (transactions.ended_by by) tx txs.old.txs }
     ensures spare { txs.new.spare ≡ txs.old.spare }
 {
     txs.was_made(tx) && txs.end(tx, by).is_ok()
@@ -113,7 +112,7 @@ pub fn end_run(calls: &Vec<CallRow>, rows: &mut RowsTable, txs: &mut Txs)
         (rows_ended works_inside 0 (works_of calls.now.items)
         (numbered (works_of calls.now.items)) rows.old.rows) }
     ensures spare { rows.new.spare ≡ rows.old.spare }
-    ensures txs { txs.new.txs ≡ things.all_changed (transactions.ended_by tx_ends.EndOfRun) txs.old.txs }
+    ensures txs { txs.new.txs ≡ all_changed (transactions.ended_by tx_ends.EndOfRun) txs.old.txs }
     ensures tx_spare { txs.new.spare ≡ txs.old.spare }
 {
     for query in 0..numbered(calls) {

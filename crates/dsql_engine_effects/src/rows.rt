@@ -1,7 +1,8 @@
 //! What calls and answers do to the rows.
 ghost use Rattle.std.specs.Prelude.{◌≡◌, ◌+◌, ◌<◌, ◌≤◌, true, false, ◌&&◌, vec_len, vec_capacity};
 ghost use Rattle.dsql_history.specs.driver.declared.answer.DriverAnswer.TheVariants.{Row};
-ghost use Rattle.dsql_history.specs.rows.OpenRows.{was_made, rows_of, changed, ended_by};
+ghost use Rattle.dsql_history.specs.numbered.Numbered.{changed};
+ghost use Rattle.dsql_history.specs.rows.OpenRows.{was_made, rows_of, ended_by};
 ghost use Rattle.dsql_history.specs.Readers.HandedOut.{fetched, live};
 ghost use Rattle.dsql_engine_effects.specs.Heard.{is_end, HearsRows, are_late, calls_after, ended_for, made_by, rows_after};
 ghost use Rattle.dsql_engine_effects.specs.Starts.{AreMade, closed_rows, closed_by};

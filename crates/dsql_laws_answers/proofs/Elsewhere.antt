@@ -12,7 +12,8 @@ use Rattle.dsql_laws_calls.specs.journal.declared.entry.Owner.{Owner}
 use Rattle.dsql_laws_calls.specs.journal.Kinds.{number_of}
 use Rattle.dsql_laws_calls.proofs.numbered.Numbers.{changes_one_number as numbered_things}
 use Rattle.dsql_laws_calls.specs.rows.declared.rows.Rows.{Rows}
-use Rattle.dsql_laws_calls.specs.rows.OpenRows.{fresh, rows_of, changed}
+use Rattle.dsql_laws_calls.specs.numbered.Numbered.{changed}
+use Rattle.dsql_laws_calls.specs.rows.OpenRows.{fresh, rows_of}
 use Rattle.dsql_laws_calls.proofs.rows.Numbers.{changes_one_number}
 use Rattle.dsql_laws_calls.specs.pool.declared.conn.Place.TheVariants.{Lent}
 use Rattle.dsql_laws_calls.specs.history.Readers.HandedOut.{fetched, born, is_late, handed_out, rows_heard, rows_by}

@@ -2,10 +2,10 @@
 -- rows, and ends no transaction.
 use Rattle.std.proofs.Common.{◌≡◌, ◌≢◌, ℕ, ◌==◌, Bool, true, false, not, ◌&&◌, ◌||◌, cond, List, ◌∷◌, Option, Some, None, is_some, is_none, refl, sym, ap, subst, ◌∙◌, arith}
 use Rattle.dsql_laws_calls.specs.course.declared.course.Wish.TheVariants as wishes
-use Rattle.dsql_laws_calls.specs.numbered.Numbered.{thing_of, changed as changed_in}
+use Rattle.dsql_laws_calls.specs.numbered.Numbered.{thing_of, changed as changed_in, changed}
 use Rattle.dsql_laws_calls.specs.rows.declared.end.RowsEnd.TheVariants as ends
 use Rattle.dsql_laws_calls.specs.rows.declared.rows.Rows.{Rows}
-use Rattle.dsql_laws_calls.specs.rows.OpenRows.{ended_by, rows_of, changed}
+use Rattle.dsql_laws_calls.specs.rows.OpenRows.{ended_by, rows_of}
 use Rattle.dsql_laws_calls.specs.tx.declared.end.TxEnd.{TxEnd}
 use Rattle.dsql_laws_calls.specs.tx.declared.end.TxEnd.TheVariants as tx_ends
 use Rattle.dsql_laws_calls.specs.tx.Transactions.{ended_by as ended_tx}

@@ -9,7 +9,8 @@ use Rattle.dsql_laws_calls.specs.driver.declared.answer.DriverAnswer.TheVariants
 use Rattle.dsql_laws_calls.specs.journal.declared.entry.Entry.{Entry}
 use Rattle.dsql_laws_calls.specs.rows.declared.rows.Rows.{Rows}
 use Rattle.dsql_laws_calls.specs.rows.declared.end.RowsEnd.TheVariants as ends
-use Rattle.dsql_laws_calls.specs.rows.OpenRows.{fresh, ended_by, rows_of, changed}
+use Rattle.dsql_laws_calls.specs.numbered.Numbered.{changed}
+use Rattle.dsql_laws_calls.specs.rows.OpenRows.{fresh, ended_by, rows_of}
 use Rattle.dsql_laws_calls.specs.works.HandedOut.{Made}
 use Rattle.dsql_laws_calls.proofs.laws.Tests.{same_number}
 use Rattle.dsql_laws_calls.specs.history.Readers.HandedOut.{fetched, live, over, born, is_late, rows_heard, end_in, ended_with, rows_entered, last_end, handed_out, rows_by, are_live, are_over, caller, ended_at, ender}

@@ -3,7 +3,8 @@ use Rattle.std.proofs.Common.{◌≡◌, ◌≢◌, ℕ, ◌⊎◌, inl, inr, Bo
 use Rattle.std.specs.Option.{option_map}
 use Rattle.dsql_laws.specs.rows.declared.rows.Rows.{Rows}
 use Rattle.dsql_laws.specs.rows.declared.end.RowsEnd.{RowsEnd}
-use Rattle.dsql_laws.specs.rows.OpenRows.{is_live, ended_by, rows_of, changed, fresh}
+use Rattle.dsql_laws.specs.numbered.Numbered.{changed}
+use Rattle.dsql_laws.specs.rows.OpenRows.{is_live, ended_by, rows_of, fresh}
 use Rattle.dsql_laws.proofs.rows.Numbers.{changes_one_number}
 use Rattle.dsql_laws.specs.works.HandedOut.{Made, after_fetch}
 use Rattle.dsql_laws.specs.history.Readers.HandedOut.{over, fetched, live, born, is_late, end_in, ended_with, last_end, rows_at_end, handed_out, rows_by, rows_heard, rows_entered, are_live, ender, ended_at}

@@ -10,10 +10,10 @@ use Rattle.dsql_laws.specs.driver.declared.answer.DriverAnswer.TheVariants.{Curs
 use Rattle.dsql_laws.specs.course.declared.course.Wish.TheVariants as wishes
 use Rattle.dsql_laws.specs.journal.declared.entry.Entry.{Entry}
 use Rattle.dsql_laws.specs.journal.Kinds.{number_of}
-use Rattle.dsql_laws.specs.numbered.Numbered.{thing_of, changed as changed_in}
+use Rattle.dsql_laws.specs.numbered.Numbered.{thing_of, changed as changed_in, changed}
 use Rattle.dsql_laws.specs.rows.declared.rows.Rows.{Rows}
 use Rattle.dsql_laws.specs.rows.declared.end.RowsEnd.TheVariants as ends
-use Rattle.dsql_laws.specs.rows.OpenRows.{fresh, is_live, rows_of, changed}
+use Rattle.dsql_laws.specs.rows.OpenRows.{fresh, is_live, rows_of}
 use Rattle.dsql_laws.specs.tx.declared.end.TxEnd.{TxEnd}
 use Rattle.dsql_laws.specs.tx.declared.end.TxEnd.TheVariants as tx_ends
 use Rattle.dsql_laws.specs.tx.declared.tx.Tx.{Tx as Trans}

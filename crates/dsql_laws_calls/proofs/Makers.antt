@@ -18,7 +18,8 @@ use Rattle.dsql_laws.specs.pool.declared.conn.Place.{Place}
 use Rattle.dsql_laws.specs.pool.declared.conn.Place.TheVariants.{Lent}
 use Rattle.dsql_laws.specs.rows.declared.rows.Rows.{Rows}
 use Rattle.dsql_laws.specs.rows.declared.end.RowsEnd.TheVariants as ends
-use Rattle.dsql_laws.specs.rows.OpenRows.{fresh, ended_by, rows_of, changed}
+use Rattle.dsql_laws.specs.numbered.Numbered.{changed}
+use Rattle.dsql_laws.specs.rows.OpenRows.{fresh, ended_by, rows_of}
 use Rattle.dsql_laws.proofs.rows.Numbers.{changes_one_number}
 use Rattle.dsql_laws.specs.tx.declared.end.TxEnd.{TxEnd}
 use Rattle.dsql_laws.specs.tx.declared.end.TxEnd.TheVariants as tx_ends

@@ -8,7 +8,8 @@ use Rattle.dsql_laws.specs.driver.declared.answer.DriverAnswer.TheVariants.{Curs
 use Rattle.dsql_laws.specs.rows.declared.rows.Rows.{Rows}
 use Rattle.dsql_laws.specs.rows.declared.end.RowsEnd.{RowsEnd}
 use Rattle.dsql_laws.specs.rows.declared.end.RowsEnd.TheVariants as ends
-use Rattle.dsql_laws.specs.rows.OpenRows.{fresh, is_live, ended_by, rows_of, changed}
+use Rattle.dsql_laws.specs.numbered.Numbered.{changed}
+use Rattle.dsql_laws.specs.rows.OpenRows.{fresh, is_live, ended_by, rows_of}
 use Rattle.dsql_laws.specs.works.HandedOut.{Made}
 use Rattle.dsql_laws.specs.history.Readers.HandedOut.{live, rows_heard, rows_entered, handed_out, are_live, caller, ended_at, ender, born, is_late, end_in, ended_with, last_end, rows_by}
 use Rattle.dsql_laws.specs.history.declared.work.Work.{Work}

@@ -6,11 +6,11 @@ use Rattle.std.specs.Prelude.{map}
 use Rattle.dsql_laws_calls.specs.driver.declared.call.DriverCall.{DriverCall}
 use Rattle.dsql_laws_calls.specs.driver.declared.call.DriverCall.TheVariants.{Next}
 use Rattle.dsql_laws_calls.specs.driver.declared.answer.DriverAnswer.{DriverAnswer}
-use Rattle.dsql_laws_calls.specs.numbered.Numbered.{changed as changed_at, thing_of}
+use Rattle.dsql_laws_calls.specs.numbered.Numbered.{changed as changed_at, thing_of, changed}
 use Rattle.dsql_laws_calls.proofs.numbered.Numbers.{changes_one_number as changes_one_thing}
 use Rattle.dsql_laws_calls.specs.rows.declared.end.RowsEnd.TheVariants as ends
 use Rattle.dsql_laws_calls.specs.rows.declared.rows.Rows.{Rows}
-use Rattle.dsql_laws_calls.specs.rows.OpenRows.{changed, ended_by, rows_of}
+use Rattle.dsql_laws_calls.specs.rows.OpenRows.{ended_by, rows_of}
 use Rattle.dsql_laws_calls.proofs.rows.Numbers.{changes_one_number}
 use Rattle.dsql_laws_calls.specs.tx.declared.end.TxEnd.{TxEnd}
 use Rattle.dsql_laws_calls.specs.tx.declared.end.TxEnd.TheVariants as tx_ends

@@ -1,12 +1,12 @@
 -- What the entry of a call makes of rows and transactions: each is as it was, or the entry has ended it.
 use Rattle.std.proofs.Common.{◌≡◌, ◌≢◌, ℕ, ◌⊎◌, inl, inr, Bool, true, false, not, ◌&&◌, cond, List, ◌∷◌, map, Option, Some, None, is_some, unwrap_or, refl, sym, ap, ◌∙◌}
 use Rattle.std.specs.Option.{option_map}
-use Rattle.dsql_laws_calls.specs.numbered.Numbered.{thing_of, changed as changed_in}
+use Rattle.dsql_laws_calls.specs.numbered.Numbered.{thing_of, changed as changed_in, changed}
 use Rattle.dsql_laws_calls.proofs.numbered.Numbers.{changes_one_number}
 use Rattle.dsql_laws_calls.specs.rows.declared.rows.Rows.{Rows}
 use Rattle.dsql_laws_calls.specs.rows.declared.end.RowsEnd.{RowsEnd}
 use Rattle.dsql_laws_calls.specs.rows.declared.end.RowsEnd.TheVariants as ends
-use Rattle.dsql_laws_calls.specs.rows.OpenRows.{is_live, ended_by, rows_of, changed}
+use Rattle.dsql_laws_calls.specs.rows.OpenRows.{is_live, ended_by, rows_of}
 use Rattle.dsql_laws_calls.proofs.rows.Numbers.{changes_one_number as rows_changes}
 use Rattle.dsql_laws_calls.specs.tx.declared.end.TxEnd.{TxEnd}
 use Rattle.dsql_laws_calls.specs.tx.declared.tx.Tx.{Tx as Trans}

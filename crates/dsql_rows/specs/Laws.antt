@@ -8,7 +8,8 @@ use Rattle.dsql_rows.specs.declared.end.RowsEnd.{RowsEnd}
 use Rattle.dsql_rows.specs.declared.fault.RowsFault.TheVariants as fault
 use Rattle.dsql_rows.specs.declared.rows.Rows.{Rows}
 use Rattle.dsql_rows.specs.Ends.{over_of}
-use Rattle.dsql_rows.specs.OpenRows.{fresh, is_live, shown, ended_by, scan_of, scan_answer, rows_of, was_made, changed}
+use Rattle.dsql_value_numbered.specs.Numbered.{changed}
+use Rattle.dsql_rows.specs.OpenRows.{fresh, is_live, shown, ended_by, scan_of, scan_answer, rows_of, was_made}
 
 -- Holds if the first end of rows stays, whatever ends them later.
 pub record FirstEndStays : Type 0 where

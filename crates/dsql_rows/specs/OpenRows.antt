@@ -87,11 +87,3 @@ rows_of n rows = numbered.thing_of n rows
 
 abbrev pub was_made : ℕ → List (ℕ × Rows) → Bool
 was_made n rows = numbered.was_made n rows
-
--- Returns the table with the rows of this number changed.
-abbrev pub changed : (Rows → Rows) → ℕ → List (ℕ × Rows) → List (ℕ × Rows)
-changed change n rows = numbered.changed change n rows
-
--- Returns the table with all rows changed.
-abbrev pub all_changed : (Rows → Rows) → List (ℕ × Rows) → List (ℕ × Rows)
-all_changed change rows = numbered.all_changed change rows

@@ -28,7 +28,8 @@ impl Model for RowsTable {
 }
 
 impl RowsTable {
-    ghost use Rattle.dsql_rows.specs.OpenRows.{rows_of, was_made, fresh, is_live, changed, all_changed, shown, ended_by, told_by, IsClosedBy, IsScan};
+    ghost use Rattle.dsql_value_numbered.specs.Numbered.{changed, all_changed};
+    ghost use Rattle.dsql_rows.specs.OpenRows.{rows_of, was_made, fresh, is_live, shown, ended_by, told_by, IsClosedBy, IsScan};
     ghost use Rattle.dsql_rows.specs.declared.end.RowsEnd.TheVariants.{EndOfRun};
 
     /// Returns a table without rows. It takes no memory.

@@ -3,7 +3,8 @@ use Rattle.std.specs.Prelude.{◌≡◌, ◌≢◌, ℕ, ℤ, true, false, List,
 use Rattle.std.specs.Option.{option_map}
 use Rattle.dsql_stmt.specs.declared.stmt.Home.{Home}
 use Rattle.dsql_stmt.specs.declared.stmt.Stmt.{Stmt}
-use Rattle.dsql_stmt.specs.Statements.{Live, HandleInputs, unclosed, is_open, closed_by, answer_of, stmt_of, was_added, changed, handle_on, is_live, live_handle, handles_of, handed_out, without_handle, without_conn, IsOneEach}
+use Rattle.dsql_value_numbered.specs.Numbered.{changed}
+use Rattle.dsql_stmt.specs.Statements.{Live, HandleInputs, unclosed, is_open, closed_by, answer_of, stmt_of, was_added, handle_on, is_live, live_handle, handles_of, handed_out, without_handle, without_conn, IsOneEach}
 
 -- Returns the statement after closes by these calls, one after another.
 abbrev pub closed_by_all : List ℕ → Stmt → Stmt

@@ -44,11 +44,6 @@ stmt_of n stmts = lookup (λ k. n == k) stmts
 abbrev pub was_added : ℕ → List (ℕ × Stmt) → Bool
 was_added n stmts = is_some (stmt_of n stmts)
 
--- Returns the statements with the one of this number changed.
-abbrev pub changed : (Stmt → Stmt) → ℕ → List (ℕ × Stmt) → List (ℕ × Stmt)
-changed change n [] = []
-changed change n (e ∷ later) = if n == e.0 then (e.0, change e.1) ∷ later else e ∷ changed change n later
-
 -- A live handle: the statement, the connection, and what the driver answered.
 abbrev pub Live : Type 0
 Live = (ℕ × ℕ) × Prepared

@@ -42,7 +42,8 @@ impl Model for Stmts {
 }
 
 impl Stmts {
-    ghost use Rattle.dsql_stmt.specs.Statements.{stmt_of, was_added, unclosed, changed, closed_by, is_open, answer_of, handle_on, is_live, live_handle, handed_out, without_handle, without_conn, IsOneEach};
+    ghost use Rattle.dsql_value_numbered.specs.Numbered.{changed};
+    ghost use Rattle.dsql_stmt.specs.Statements.{stmt_of, was_added, unclosed, closed_by, is_open, answer_of, handle_on, is_live, live_handle, handed_out, without_handle, without_conn, IsOneEach};
 
     /// Returns a table without statements. It takes no memory.
     pub fn new(alloc: Global) -> Stmts

@@ -2,7 +2,8 @@
 use Rattle.std.specs.Prelude.{Bool, false, not, cond, Option, Some, None, ℕ, List, [], ◌∷◌, ◌++◌, map}
 use Rattle.dsql_history_work.specs.driver.declared.answer.DriverAnswer.{DriverAnswer}
 use Rattle.dsql_history_work.specs.rows.declared.rows.Rows.{Rows}
-use Rattle.dsql_history_work.specs.rows.OpenRows.{is_live, fresh, ended_by, rows_of, changed}
+use Rattle.dsql_value_numbered.specs.Numbered.{changed}
+use Rattle.dsql_history_work.specs.rows.OpenRows.{is_live, fresh, ended_by, rows_of}
 use Rattle.dsql_history_work.specs.HandedOut.{after_fetch, Made}
 use Rattle.dsql_history_work.specs.driver.declared.call.DriverCall.{DriverCall}
 use Rattle.dsql_history_work.specs.driver.declared.call.DriverCall.TheVariants.{Query, Next}

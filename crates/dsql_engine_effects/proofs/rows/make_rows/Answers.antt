@@ -1,6 +1,7 @@
 use Rattle.std.proofs.Common.{ap, ◌∙◌}
 use Rattle.dsql_history.specs.rows.declared.end.RowsEnd.TheVariants.{TxEnded}
-use Rattle.dsql_history.specs.rows.OpenRows.{was_made, changed, ended_by}
+use Rattle.dsql_history.specs.numbered.Numbered.{changed}
+use Rattle.dsql_history.specs.rows.OpenRows.{was_made, ended_by}
 use Rattle.dsql_history.specs.works.HandedOut.{Made}
 use Rattle.dsql_engine_effects.proofs.Born.{made_now, changed_new, made_late}
 use Rattle.dsql_engine_effects.proofs.rows.make_rows.Goals as goal

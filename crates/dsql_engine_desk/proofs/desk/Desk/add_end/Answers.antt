@@ -1,6 +1,6 @@
 use Rattle.std.proofs.Common.{ap, refl, rules, ◌∙◌, ◌≡◌, List}
-use Rattle.dsql_laws_calls.specs.numbered.Numbered as things
-use Rattle.dsql_laws_calls.specs.rows.OpenRows.{all_changed, ended_by}
+use Rattle.dsql_laws_calls.specs.numbered.Numbered.{all_changed}
+use Rattle.dsql_laws_calls.specs.rows.OpenRows.{ended_by}
 use Rattle.dsql_laws_calls.specs.rows.declared.end.RowsEnd.TheVariants.{EndOfRun}
 use Rattle.dsql_laws_calls.specs.tx.Transactions as transactions
 use Rattle.dsql_laws_calls.specs.tx.declared.end.TxEnd.TheVariants as tx_ends
@@ -42,7 +42,7 @@ returns c =
         rows = rw p (c.end_run.ensures.rows ∙ rows);
         once = rw p (rows_once_at_end H (handed_out H) t.once);
         counted = rw p t.counted;
-        txs = rw p (c.end_run.ensures.txs ∙ ap (things.all_changed (transactions.ended_by tx_ends.EndOfRun)) t.txs);
+        txs = rw p (c.end_run.ensures.txs ∙ ap (all_changed (transactions.ended_by tx_ends.EndOfRun)) t.txs);
         room = search rules;
       };
       event = p;

@@ -2,7 +2,8 @@
 use Rattle.std.proofs.Common.{ℕ, List, ap, sym, eqb, ◌∙◌}
 use Rattle.std.specs.Map.{set_value}
 use Rattle.dsql_rows.specs.declared.rows.Rows.{Rows}
-use Rattle.dsql_rows.specs.OpenRows.{OpenRows, changed, ended_by}
+use Rattle.dsql_value_numbered.specs.Numbered.{changed}
+use Rattle.dsql_rows.specs.OpenRows.{OpenRows, ended_by}
 use Rattle.dsql_value_numbered.proofs.Changes.{set_value-changed}
 use Rattle.dsql_rows.proofs.table.RowsTable.close.Goals as goal
 

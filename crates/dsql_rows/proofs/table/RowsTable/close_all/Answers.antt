@@ -4,7 +4,8 @@ use Rattle.std.specs.Map.{values_of}
 use Rattle.indexmap.specs.IndexMap.{set_value_at}
 use Rattle.dsql_rows.specs.declared.rows.Rows.{Rows}
 use Rattle.dsql_rows.specs.declared.end.RowsEnd.TheVariants.{EndOfRun}
-use Rattle.dsql_rows.specs.OpenRows.{OpenRows, ended_by, all_changed}
+use Rattle.dsql_value_numbered.specs.Numbered.{all_changed}
+use Rattle.dsql_rows.specs.OpenRows.{OpenRows, ended_by}
 use Rattle.dsql_value_numbered.proofs.EachThing.{length-changed_before, changed_before-end, changed_before-next}
 use Rattle.dsql_rows.proofs.table.RowsTable.close_all.Goals as goal
 

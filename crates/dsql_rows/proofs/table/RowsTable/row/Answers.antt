@@ -5,7 +5,8 @@ use Rattle.std.proofs.lemmas.Result.{on_ok_weaker, on_err_weaker, IfErr-weaker}
 use Rattle.std.proofs.lemmas.Map.Steps.{set_value_same}
 use Rattle.std.specs.Map.{set_value}
 use Rattle.dsql_rows.specs.declared.rows.Rows.{Rows}
-use Rattle.dsql_rows.specs.OpenRows.{OpenRows, rows_of, changed, shown, IsClosedBy}
+use Rattle.dsql_value_numbered.specs.Numbered.{changed}
+use Rattle.dsql_rows.specs.OpenRows.{OpenRows, rows_of, shown, IsClosedBy}
 use Rattle.dsql_value_numbered.proofs.Changes.{set_value-changed}
 use Rattle.dsql_rows.proofs.table.RowsTable.row.Goals as goal
 
