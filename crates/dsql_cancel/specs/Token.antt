@@ -21,13 +21,13 @@ abbrev pub runs : Token → Bool
 runs token = is_none token.cause
 
 -- Is true if there is a deadline and it has passed.
-abbrev pub is_over : ℕ → Option ℕ → Bool
-is_over now (Some at) = has_passed at now
-is_over now None = false
+abbrev pub has_deadline_passed : ℕ → Option ℕ → Bool
+has_deadline_passed now (Some at) = has_passed at now
+has_deadline_passed now None = false
 
 -- Is true if the token isn't cancelled and its deadline has passed.
 abbrev pub runs_out : ℕ → Token → Bool
-runs_out now token = runs token && is_over now token.deadline
+runs_out now token = runs token && has_deadline_passed now token.deadline
 
 -- Returns the token, cancelled. A first cause stays.
 abbrev pub stopped : Cause → Token → Token

@@ -7,7 +7,7 @@ ghost use Rattle.dsql_history.specs.Rules.Line.{keeps_line};
 ghost use Rattle.dsql_history.specs.Rules.Order.{keeps_order};
 ghost use Rattle.dsql_history.specs.Rules.Replies.{keeps_replies};
 ghost use Rattle.dsql_history.specs.Rules.Moves.{keeps_sets};
-ghost use Rattle.dsql_history.specs.Rules.Settled.{goes_on};
+ghost use Rattle.dsql_history.specs.Rules.Settled.{calls_stand};
 ghost use Rattle.dsql_cases_histories.specs.Refusals.{is_refused_at, is_unsettled_after};
 ghost use Rattle.dsql_cases_histories.specs.Damaged.{a_call_on_the_database_sends_in_a_transaction, a_call_of_one_transaction_sends_in_another, one_breaks_into_a_prepared_exec, what_waited_is_sent_after_the_commit, the_layer_rolls_it_back, the_layer_closes_its_rows, a_commit_rolls_back, a_commit_is_sent_twice, a_commit_leaves_rows_open, a_commit_closes_rows_in_another_order, a_commit_breaks_into_a_call, it_loses_its_connection, it_is_lent_on, a_begin_borrows_as_a_call, a_commit_replies_too_soon, it_is_said_to_be_done, a_commit_that_failed_is_told_as_done, a_rollback_is_told_as_a_commit, an_exec_in_it_has_no_number, a_begin_is_asked_for_otherwise, a_call_in_it_tests_its_connection, rows_are_closed_on_a_bad_connection, the_end_of_the_run_commits, the_end_of_the_run_leaves_it, one_asks_in_the_step_of_another, a_ping_gives_back_in_the_step_of_another, a_ping_that_gave_back_lingers, a_close_that_sends_nothing_lingers, a_begin_is_told_later_of_the_close};
 
@@ -51,9 +51,9 @@ pub fn refused_histories_of_transactions()
 /// Each of these steps is cut off before a call has replied that has to. At the free moment after this event
 /// the call stands nowhere.
 pub fn refused_histories_of_steps()
-    ensures a_ping_that_gave_back_lingers { is_unsettled_after 6 goes_on a_ping_that_gave_back_lingers ≡ true }
-    ensures a_close_that_sends_nothing_lingers { is_unsettled_after 17 goes_on a_close_that_sends_nothing_lingers
+    ensures a_ping_that_gave_back_lingers { is_unsettled_after 6 calls_stand a_ping_that_gave_back_lingers ≡ true }
+    ensures a_close_that_sends_nothing_lingers { is_unsettled_after 17 calls_stand a_close_that_sends_nothing_lingers
         ≡ true }
-    ensures a_begin_is_told_later_of_the_close { is_unsettled_after 9 goes_on a_begin_is_told_later_of_the_close
+    ensures a_begin_is_told_later_of_the_close { is_unsettled_after 9 calls_stand a_begin_is_told_later_of_the_close
         ≡ true }
 {}

@@ -5,7 +5,7 @@ ghost use Rattle.dsql_history.specs.Computed.{is_legal};
 ghost use Rattle.dsql_history.specs.Rules.Order.{keeps_order};
 ghost use Rattle.dsql_history.specs.Rules.Asking.{keeps_asking};
 ghost use Rattle.dsql_history.specs.Rules.Limit.{keeps_limit};
-ghost use Rattle.dsql_history.specs.Rules.Settled.{goes_on, owes_nothing};
+ghost use Rattle.dsql_history.specs.Rules.Settled.{calls_stand, owes_nothing};
 ghost use Rattle.dsql_history.specs.Rules.Causes.{keeps_causes};
 ghost use Rattle.dsql_history.specs.Rules.Replies.{keeps_replies};
 ghost use Rattle.dsql_cases_histories.specs.Refusals.{is_refused_at, is_unsettled_after};
@@ -47,8 +47,8 @@ pub fn refused_histories_of_waiting()
     ensures a_call_waits_though_one_is_idle { is_refused_at 11 keeps_asking a_call_waits_though_one_is_idle ≡ true }
     ensures a_call_waits_below_the_limit { is_refused_at 4 keeps_asking a_call_waits_below_the_limit ≡ true }
     ensures one_is_opened_above_the_limit { is_refused_at 10 keeps_limit one_is_opened_above_the_limit ≡ true }
-    ensures a_call_neither_asks_nor_waits { is_unsettled_after 9 goes_on a_call_neither_asks_nor_waits ≡ true }
-    ensures a_call_waits_after_another_entered { is_unsettled_after 9 goes_on a_call_waits_after_another_entered
+    ensures a_call_neither_asks_nor_waits { is_unsettled_after 9 calls_stand a_call_neither_asks_nor_waits ≡ true }
+    ensures a_call_waits_after_another_entered { is_unsettled_after 9 calls_stand a_call_waits_after_another_entered
         ≡ true }
     ensures a_raised_limit_opens_for_nobody { is_unsettled_after 13 owes_nothing a_raised_limit_opens_for_nobody
         ≡ true }
@@ -66,7 +66,7 @@ pub fn refused_histories_of_waiting()
     ensures fewer_idle_ones_the_newest_closes { is_refused_at 23 keeps_order fewer_idle_ones_the_newest_closes ≡ true }
     ensures fewer_idle_ones_none_closes { is_unsettled_after 22 owes_nothing fewer_idle_ones_none_closes ≡ true }
     ensures the_statistics_count_one_too_few { is_refused_at 23 keeps_replies the_statistics_count_one_too_few ≡ true }
-    ensures the_statistics_come_later { is_unsettled_after 22 goes_on the_statistics_come_later ≡ true }
+    ensures the_statistics_come_later { is_unsettled_after 22 calls_stand the_statistics_come_later ≡ true }
     ensures a_call_takes_the_longest_idle_one { is_refused_at 23 keeps_asking a_call_takes_the_longest_idle_one ≡ true }
     ensures one_is_opened_for_nobody { is_refused_at 2 keeps_asking one_is_opened_for_nobody ≡ true }
     ensures a_connection_closes_as_full_though_one_waits { is_refused_at 14 keeps_causes

@@ -10,7 +10,7 @@ use Rattle.dsql_course.specs.Made.{Exchange, went_bad, was_skipped, own_handle, 
 use Rattle.dsql_course.specs.declared.course.Course.{Course}
 use Rattle.dsql_course.specs.declared.course.Course.TheVariants as course
 use Rattle.dsql_course.specs.Line.{comes_next}
-use Rattle.dsql_course.specs.Rows.{closing, but_no_handle, closed_with, closing_next, rows_next_if}
+use Rattle.dsql_course.specs.Rows.{no_more_wanted, but_no_handle, closed_with, closing_next, rows_next_if}
 use Rattle.dsql_course.specs.Laws.{RowsAreClosed, RowsOfAnyCourse, uses_rows}
 
 -- A text isn't prepared if no more is wanted.
@@ -56,7 +56,7 @@ and_false true = refl
 and_false false = refl
 
 -- On a connection that is known to be bad nothing is closed.
-nothing_on_bad : (can : Caps) (args : ℕ) (made : List Exchange) → comes_next course.One can args (closing true) made ≡ call.Over
+nothing_on_bad : (can : Caps) (args : ℕ) (made : List Exchange) → comes_next course.One can args (no_more_wanted true) made ≡ call.Over
 nothing_on_bad can args [] = rw (and_false can.fast_query, unprepared can.fast_query false) refl
 nothing_on_bad can args ((call.Text, answer) ∷ earlier) =
     let made = (call.Text, answer) ∷ earlier in
@@ -83,7 +83,7 @@ pub rows_of_any_course : RowsOfAnyCourse
 rows_of_any_course = record {
   left = λ c bad can args rows made h. rw h refl;
   fetched = λ c bad can args rows made h. rw h refl;
-  keeps_handle = λ reads one live bad can args handle made. never_handle (comes_next course.One can args (closing bad) made) handle;
+  keeps_handle = λ reads one live bad can args handle made. never_handle (comes_next course.One can args (no_more_wanted bad) made) handle;
   statement = λ reads one live can args rows made h. ap but_no_handle h;
   bad = λ c can args made. ap (closed_with c) (nothing_on_bad can args made) ∙ over_stays c;
 }

@@ -21,7 +21,7 @@ summary_with made last handle cursor skipped done settled over bad it answer s =
   is_skipped = ap (λ b. is_skip answer || b) s.is_skipped;
   was_done = ap (λ b. is_done answer || b) s.was_done;
   was_settled = ap (λ b. is_settled (it, answer) || b) s.was_settled;
-  is_over = ap (λ b. ends_rows (it, answer) || b) s.is_over;
+  are_over = ap (λ b. ends_rows (it, answer) || b) s.are_over;
   is_bad = ap (λ b. is_bad answer || b) s.is_bad;
 }
 

@@ -11,8 +11,8 @@ use Rattle.dsql_course.specs.Made.{Exchange, rows_are_over}
 use Rattle.dsql_course.specs.Line.{Found, comes_next}
 
 -- Returns the knowledge that no more rows are wanted, on a connection that may be known to be bad.
-abbrev pub closing : Bool → Found
-closing bad = record { stopped = true; bad = bad }
+abbrev pub no_more_wanted : Bool → Found
+no_more_wanted bad = record { stopped = true; bad = bad }
 
 abbrev pub but_no_handle : Due → Due
 but_no_handle (call.CloseStmt handle) = call.Over
@@ -27,7 +27,7 @@ closed_with _ due = due
 -- Returns what comes next to close the rows that a course handed out. It is what comes next for a call that
 -- reads one row and wants no more. That call closes the cursor and the handle that is its own.
 abbrev pub closing_of : Course → Bool → Caps → ℕ → List Exchange → Due
-closing_of c bad can args made = closed_with c (comes_next course.One can args (closing bad) made)
+closing_of c bad can args made = closed_with c (comes_next course.One can args (no_more_wanted bad) made)
 
 -- Returns what comes next for rows. Those that are over or to be closed are closed. Otherwise a row is fetched
 -- if one is wanted. Otherwise they stay as they are, and nothing comes.

@@ -27,5 +27,5 @@ pub record Summary (made : List Exchange) (last : Option Due) (handle : Option (
   pub is_skipped : skipped ≡ was_skipped made
   pub was_done : done ≡ list_any (λ x. is_done x.1) made
   pub was_settled : settled ≡ list_any is_settled made
-  pub is_over : over ≡ rows_are_over made
+  pub are_over : over ≡ rows_are_over made
   pub is_bad : bad ≡ went_bad made

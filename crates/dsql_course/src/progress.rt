@@ -108,12 +108,12 @@ impl Progress {
         match wish {
             Wish::Nothing if !self.over => None,
             Wish::Fetch if !self.over => Some(Due::Next(rows)),
-            _ => Some(self.closing(course, caps, args, bad)),
+            _ => Some(self.closing_of(course, caps, args, bad)),
         }
     }
 
     /// Returns what comes next to close the rows that a course handed out.
-    fn closing(&self, course: Course, caps: Caps, args: usize, bad: bool) -> Due
+    fn closing_of(&self, course: Course, caps: Caps, args: usize, bad: bool) -> Due
         ensures { result ≡ closing_of course bad caps args self.now }
     {
         match (course, self.next(Course::One, caps, args, true, bad)) {

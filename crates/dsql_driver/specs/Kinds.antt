@@ -92,9 +92,9 @@ is_bad Bad = true
 is_bad _ = false
 
 -- Is true if a cursor gives no row after this answer: End, Fail or Bad.
-abbrev pub is_over : DriverAnswer → Bool
-is_over End = true
-is_over answer = is_failure answer
+abbrev pub ends_cursor : DriverAnswer → Bool
+ends_cursor End = true
+ends_cursor answer = is_failure answer
 
 -- Returns the handle that an answer gives.
 abbrev pub given_handle : DriverAnswer → Option ℕ

@@ -2,7 +2,7 @@
 //! gives.
 ghost use Rattle.std.specs.Prelude.{◌≡◌};
 ghost use Rattle.dsql_driver.specs.Fits.{is_done, is_failure, is_skip, is_invalid};
-ghost use Rattle.dsql_driver.specs.Kinds.{is_connect, is_reset, is_valid, is_ping, is_prepare, runs_text, runs_handle, is_next, is_close_rows, is_close_stmt, is_begin, is_ending, is_shut, is_work, handle_of, cursor_of, is_bad, is_over, given_handle, given_cursor};
+ghost use Rattle.dsql_driver.specs.Kinds.{is_connect, is_reset, is_valid, is_ping, is_prepare, runs_text, runs_handle, is_next, is_close_rows, is_close_stmt, is_begin, is_ending, is_shut, is_work, handle_of, cursor_of, is_bad, ends_cursor, given_handle, given_cursor};
 
 use crate::answer::DriverAnswer;
 use crate::call::{DriverCall, Input};
@@ -180,8 +180,8 @@ impl DriverAnswer {
     }
 
     /// Returns true if a cursor gives no row after this answer.
-    pub fn is_over(&self) -> bool
-        ensures { result ≡ is_over self.now }
+    pub fn ends_cursor(&self) -> bool
+        ensures { result ≡ ends_cursor self.now }
     {
         matches!(
             self,

@@ -2,7 +2,7 @@
 use Rattle.std.specs.Prelude.{ℕ, min, ◌==◌, ◌+◌, nat_lt, Bool, true, false, ◌&&◌, List, [], ◌∷◌, length, Option, Some, None}
 use Rattle.dsql_history.specs.declared.record.Try.{Try}
 use Rattle.dsql_history.specs.declared.record.Try.TheVariants.{Served, Lost, Refused}
-use Rattle.dsql_history.specs.Readers.Tries.{is_over, most_tries}
+use Rattle.dsql_history.specs.Readers.Tries.{came_to_nothing, most_tries}
 use Rattle.dsql_engine_calls.specs.declared.tried.Tried.{Tried}
 
 -- Returns what is kept before the first try.
@@ -40,7 +40,7 @@ number tried = number_among tried.count tried.newest
 -- Is true if another try is left.
 abbrev pub leaves_another : ℕ → Option Try → Bool
 leaves_another count None = true
-leaves_another count (Some newest) = is_over newest && nat_lt count most_tries
+leaves_another count (Some newest) = came_to_nothing newest && nat_lt count most_tries
 
 abbrev pub has_another : Tried → Bool
 has_another tried = leaves_another tried.count tried.newest

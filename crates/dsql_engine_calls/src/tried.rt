@@ -1,7 +1,7 @@
 //! What the layer keeps of the tries of one call.
 ghost use Rattle.std.specs.Prelude.{◌≡◌};
 ghost use Rattle.dsql_engine_calls.specs.Tried.{asks_again, has_another, newest_lost, next_is_last, number, one_more, untried};
-ghost use Rattle.dsql_history.specs.Readers.Tries.{is_over};
+ghost use Rattle.dsql_history.specs.Readers.Tries.{came_to_nothing};
 
 use dsql_history::{DriverAnswer, Try};
 
@@ -43,7 +43,7 @@ impl Tried {
         ensures { result ≡ has_another self.now }
     {
         match &self.newest {
-            Some(newest) => is_over(newest) && self.count < MOST_TRIES,
+            Some(newest) => came_to_nothing(newest) && self.count < MOST_TRIES,
             None => true,
         }
     }
@@ -81,8 +81,8 @@ impl Tried {
 }
 
 /// Returns true if the try failed because a connection was bad.
-fn is_over(it: &Try) -> bool
-    ensures { result ≡ is_over it.now }
+fn came_to_nothing(it: &Try) -> bool
+    ensures { result ≡ came_to_nothing it.now }
 {
     matches!(it, Try::Lost | Try::Refused(DriverAnswer::Bad))
 }

@@ -9,7 +9,7 @@ use Rattle.dsql_laws_calls.specs.history.declared.event.Event.{Event}
 use Rattle.dsql_laws_calls.specs.history.declared.event.Event.TheVariants.{Pool}
 use Rattle.dsql_laws_calls.specs.history.declared.record.Try.{Try}
 use Rattle.dsql_laws_calls.specs.history.Readers.Pool.{pool}
-use Rattle.dsql_laws_calls.specs.history.Readers.Tries.{has_a_try, is_over, most_tries, tries}
+use Rattle.dsql_laws_calls.specs.history.Readers.Tries.{has_a_try, came_to_nothing, most_tries, tries}
 use Rattle.dsql_laws_calls.specs.history.Rules.Asking.{may_ask}
 use Rattle.dsql_laws_calls.specs.history.Legal.{Allowed, Lawful}
 use Rattle.dsql_laws_calls.proofs.laws.Asker.{asker}
@@ -20,7 +20,7 @@ use Rattle.dsql_laws_calls.proofs.Untried.{fallen_wanted, wanting_has_try, wants
 few_of : (ts : List Try) → has_a_try ts ≡ true → length ts < most_tries
 few_of [] left = omega arith
 few_of (t ∷ ts) left =
-    let a = both (is_over t) (nat_lt (length (t ∷ ts)) most_tries) left in
+    let a = both (came_to_nothing t) (nat_lt (length (t ∷ ts)) most_tries) left in
     let less : nat_lt (length (t ∷ ts)) most_tries ≡ true = a.1 in
     grind (arith, nat_tests, less)
 

@@ -7,7 +7,7 @@ use Rattle.dsql_laws_calls.specs.history.declared.event.Event.{Event}
 use Rattle.dsql_laws_calls.specs.history.declared.work.Work.TheVariants.{Look}
 use Rattle.dsql_laws_calls.specs.history.Readers.Works.{hands_out_in, work, works}
 use Rattle.dsql_laws_calls.specs.history.Rules.Ending.{first_closing}
-use Rattle.dsql_laws_calls.specs.history.Rules.Sent.{closing}
+use Rattle.dsql_laws_calls.specs.history.Rules.Sent.{close_due}
 use Rattle.dsql_engine_effects.proofs.AsEntered.{handed_out_later}
 use Rattle.dsql_engine_desk.specs.Ending.{closing_in}
 
@@ -43,7 +43,7 @@ none_here H k q is = by (within q (length (works H)))
 unclosed : (H : List Event) (k q : ℕ) → q < k → closing_in H k q ≡ None
 unclosed H k q before = by (hands_out_in k (work H q)) refl
   where
-    by : (b : Bool) → hands_out_in k (work H q) ≡ b → cond b (closing H q) None ≡ None
+    by : (b : Bool) → hands_out_in k (work H q) ≡ b → cond b (close_due H q) None ≡ None
     by true is = let later = handed_out_later H k q is in absurd (omega (arith, later, before))
     by false is = refl
 

@@ -56,7 +56,7 @@ impl Desk {
         ensures { (asked : Asked) → option_map (filled asked) result ≡ closing_in (past self.now) tx query }
     {
         if row::hands_out_in(&self.calls, query, tx) {
-            self.closing(query)
+            self.close_due(query)
         } else {
             None
         }

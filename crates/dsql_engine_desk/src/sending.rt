@@ -11,7 +11,7 @@ ghost use Rattle.dsql_laws_calls.specs.history.Readers.Works.{asks, scope, work}
 ghost use Rattle.dsql_laws_calls.specs.works.Line.{Asked};
 ghost use Rattle.dsql_laws_calls.specs.history.Rules.Ending.{ending};
 ghost use Rattle.dsql_laws_calls.specs.history.Rules.Line.{due_for, is_used, rest, sends_in, tidying};
-ghost use Rattle.dsql_laws_calls.specs.history.Rules.Sent.{asked_by, closes, closing, line_of, sent_for, wish};
+ghost use Rattle.dsql_laws_calls.specs.history.Rules.Sent.{asked_by, closes, close_due, line_of, sent_for, wish};
 
 use crate::desk::Desk;
 use dsql_engine_exchanged::BareCall;
@@ -20,7 +20,7 @@ use dsql_laws_calls::{Scope, Wish};
 #[tactic(auto, using(crate::proofs::Due::due_by_kind, crate::proofs::Due::is_filled, crate::proofs::Due::sender_line, crate::proofs::Due::over_made, crate::proofs::Due::wanted, crate::proofs::Due::unmade, crate::proofs::Due::rest_by_rows, crate::proofs::ToldBeside::late_inside, crate::proofs::ToldBeside::scope_inside, crate::proofs::OverRows::made_line), unfolding(crate::specs::Desk::Stands))]
 impl Desk {
     /// Returns whether a driver call is due for a call.
-    pub fn is_due(&self, call: u32) -> bool
+    pub fn has_due(&self, call: u32) -> bool
         requires { Stands self.now }
         ensures { result ≡ is_some (due_for (past self.now) call) }
     {
@@ -61,7 +61,7 @@ impl Desk {
                 None
             }
         } else if self.ender(call) == 0 {
-            self.closing(call)
+            self.close_due(call)
         } else {
             None
         }
@@ -184,9 +184,9 @@ impl Desk {
     }
 
     /// Returns the driver call that is still to be sent to close the rows that a call handed out.
-    pub(crate) fn closing(&self, call: u32) -> Option<BareCall>
+    pub(crate) fn close_due(&self, call: u32) -> Option<BareCall>
         requires { Stands self.now }
-        ensures { (asked : Asked) → option_map (filled asked) result ≡ closing (past self.now) call }
+        ensures { (asked : Asked) → option_map (filled asked) result ≡ close_due (past self.now) call }
     {
         if self.are_over(call) {
             self.next_over(call, Wish::Close)

@@ -31,19 +31,19 @@ impl Desk {
     {
         match waits_or_opens(self.waits(call), self.opening_for(call)) {
             Some(stand) => Some(stand),
-            None => self.goes_on(call),
+            None => self.sends_replies_or_asks(call),
         }
     }
 
     /// Returns where an unfinished call stands that doesn't wait, and for which no connection is being opened.
-    fn goes_on(&self, call: u32) -> Option<Stand>
+    fn sends_replies_or_asks(&self, call: u32) -> Option<Stand>
         requires stands { Stands self.now }
         requires unfinished { is_unfinished (past self.now) call ≡ true }
         ensures { result ≡ or_else (stands (is_some (due_for (past self.now) call)) (Sends (site (past self.now) call)))
             (or_else (stands (has_to_reply (past self.now) call) Replies)
             (stands (asks_again (tries (past self.now) call)) Asks)) }
     {
-        if self.is_due(call) {
+        if self.has_due(call) {
             return Some(Stand::Sends(self.site(call)));
         }
         if self.has_to_reply(call) {

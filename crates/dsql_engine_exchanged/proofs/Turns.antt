@@ -19,7 +19,7 @@ use Rattle.dsql_history.specs.course.declared.course.Wish.{Wish}
 use Rattle.dsql_history.specs.course.declared.course.Wish.TheVariants as wishes
 use Rattle.dsql_history.specs.course.Line.{Found, comes_next, or_then, when}
 use Rattle.dsql_history.specs.course.Made.{Exchange, or_else, own_cursor, own_handle, given_cursor, given_handle, is_bad, rows_are_over, was_skipped, went_bad}
-use Rattle.dsql_history.specs.course.Rows.{closing, closing_of, rows_next_if}
+use Rattle.dsql_history.specs.course.Rows.{no_more_wanted, closing_of, rows_next_if}
 use Rattle.dsql_history.specs.journal.declared.entry.Entry.{Entry}
 use Rattle.dsql_history.specs.works.declared.work.Aim.{Aim}
 use Rattle.dsql_history.specs.works.declared.work.Aim.TheVariants as aims
@@ -98,7 +98,7 @@ only_handle can bad asked wish made call last settled sent = by (handed asked.ai
     args = length asked.params
 
     over : (b : Bool) (rows : ℕ) → b ≡ true → is_due (sent_over (untested can) asked (rows_next_if b wish (closing_of courses.Query bad (untested can) args made) rows)) call ≡ true → is_close_stmt call ≡ true
-    over true rows h due_so = last_sent can asked _ call (last_next aims.ReadOne (untested can) args (closing bad) made last) due_so
+    over true rows h due_so = last_sent can asked _ call (last_next aims.ReadOne (untested can) args (no_more_wanted bad) made last) due_so
     over false rows h due_so = absurd cc
 
     by : (rows : Option ℕ) → (rows ≡ None) ⊎ (rows_are_over made ≡ true) → is_due (body_with (untested can) bad asked wish made rows) call ≡ true → is_close_stmt call ≡ true
@@ -125,7 +125,7 @@ never_prepared true later h = h
 never_prepared false later h = h
 
 no_handle_first : (can : Caps) (args : ℕ) (bad : Bool) (made : List Exchange) (rows : ℕ) → was_closed made ≡ false → own_cursor made ≡ Some rows
-    → is_stmt (comes_next courses.One can args (closing bad) made) ≡ false
+    → is_stmt (comes_next courses.One can args (no_more_wanted bad) made) ≡ false
 no_handle_first can args bad [] rows none own = absurd cc
 no_handle_first can args bad ((due.Text, got) ∷ m) rows none own =
     if_no_stmt (is_bad got || went_bad m) _ (never_prepared (not can.fast_query || was_skipped ((due.Text, got) ∷ m)) _ (cursor_first bad (own_cursor ((due.Text, got) ∷ m)) (option_map (λ handle. due.CloseStmt handle.0) (own_handle ((due.Text, got) ∷ m))) rows own))
@@ -226,7 +226,7 @@ pub record Closed (aim : Aim) (made : List Exchange) : Type 0 where
 
 pub record Stands (aim : Aim) (made : List Exchange) : Type 0 where
   pub fresh : none_given_again made ≡ true
-  pub closing : (was_closed made ≡ false) ⊎ Closed aim made
+  pub closed : (was_closed made ≡ false) ⊎ Closed aim made
 
 -- An answer before any close gives nothing again.
 fresh_before : (call : Due) (got : Got) (made : List Exchange) → none_given_again made ≡ true → was_closed made ≡ false → none_given_again ((call, got) ∷ made) ≡ true
@@ -251,13 +251,13 @@ after_handle : (aim : Aim) (handle : ℕ) (answer : DriverAnswer) (made : List E
     → (handed aim made ≡ None) ⊎ (rows_are_over made ≡ true) → Stands aim ((due.CloseStmt handle, got_of answer) ∷ made)
 after_handle aim handle answer made fresh nothing settled = record {
   fresh = fresh_after handle answer made fresh nothing;
-  closing = inr (record { last = refl; settled = still_settled aim handle answer made nothing settled });
+  closed = inr (record { last = refl; settled = still_settled aim handle answer made nothing settled });
 }
 
 before_close : (aim : Aim) (call : Due) (got : Got) (made : List Exchange) → none_given_again made ≡ true → was_closed made ≡ false → is_close call ≡ false → Stands aim ((call, got) ∷ made)
 before_close aim call got made fresh none opens = record {
   fresh = fresh_before call got made fresh none;
-  closing = inl (ap (λ b. b || was_closed made) opens ∙ none);
+  closed = inl (ap (λ b. b || was_closed made) opens ∙ none);
 }
 
 -- The next entry keeps the invariant before anything was closed.
@@ -268,7 +268,7 @@ step_before can bad asked wish made (calls.CloseStmt handle) answer fresh none s
     after_handle asked.aim handle answer made fresh (gives_nothing handle answer fits) (handle_settled can bad asked wish made handle none sent)
 step_before can bad asked wish made (calls.CloseRows rows) answer fresh none sent fits = record {
   fresh = fresh_before (due.CloseRows rows) (got_of answer) made fresh none;
-  closing = inr (record { last = refl; settled = inr refl });
+  closed = inr (record { last = refl; settled = inr refl });
 }
 step_before can bad asked wish made (calls.Exec (Text text) params) answer fresh none sent fits = before_close asked.aim due.Text (got_of answer) made fresh none refl
 step_before can bad asked wish made (calls.Exec (Handle handle) params) answer fresh none sent fits = before_close asked.aim (due.Handle handle) (got_of answer) made fresh none refl
@@ -277,7 +277,7 @@ step_before can bad asked wish made (calls.Query (Handle handle) params) answer 
 step_before can bad asked wish made (calls.Prepare text) answer fresh none sent fits = before_close asked.aim due.Prepare (got_of answer) made fresh none refl
 step_before can bad asked wish made (calls.Next rows) answer fresh none sent fits = before_close asked.aim (due.Next rows) (got_of answer) made fresh none refl
 step_before can bad asked wish made calls.Ping answer fresh none sent fits = before_close asked.aim due.Ping (got_of answer) made fresh none refl
-step_before can bad asked wish made _ answer fresh none sent fits = record { fresh = fresh; closing = inl none }
+step_before can bad asked wish made _ answer fresh none sent fits = record { fresh = fresh; closed = inl none }
 
 -- The next entry keeps the invariant after a close.
 step_after : (aim : Aim) (made : List Exchange) (call : DriverCall) (answer : DriverAnswer) → none_given_again made ≡ true → Closed aim made
@@ -286,7 +286,7 @@ step_after aim made (calls.CloseStmt handle) answer fresh closed is fits = after
 step_after aim made _ answer fresh closed is fits = absurd cc
 
 step : (can : Caps) (asked : Asked) (e : Entry) (earlier : List Entry) → IsNext can asked e earlier → Stands asked.aim (exchanges earlier) → Stands asked.aim (exchanges (e ∷ earlier))
-step can asked e earlier next so = by so.closing
+step can asked e earlier next so = by so.closed
   where
     by : (was_closed (exchanges earlier) ≡ false) ⊎ Closed asked.aim (exchanges earlier) → Stands asked.aim (exchanges (e ∷ earlier))
     by (inl none) = step_before can next.bad asked next.wish (exchanges earlier) e.call e.answer so.fresh none next.due next.fits
@@ -294,7 +294,7 @@ step can asked e earlier next so = by so.closing
         step_after asked.aim (exchanges earlier) e.call e.answer so.fresh closed (only_handle can next.bad asked next.wish (exchanges earlier) e.call closed.last closed.settled next.due) next.fits
 
 stands : (can : Caps) (asked : Asked) (line : List Entry) → ComesInTurn can asked line → Stands asked.aim (exchanges line)
-stands can asked [] so = record { fresh = refl; closing = inl refl }
+stands can asked [] so = record { fresh = refl; closed = inl refl }
 stands can asked (e ∷ earlier) so = step can asked e earlier so.0 (stands can asked earlier so.1)
 
 -- A line gives nothing again that it closed.

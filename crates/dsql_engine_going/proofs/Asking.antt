@@ -31,7 +31,7 @@ use Rattle.dsql_laws_calls.specs.history.Readers.Works.{owner_of, work}
 use Rattle.dsql_laws_calls.specs.history.Rules.Asking.{may_ask, ask_outcome, is_too_many}
 use Rattle.dsql_laws_calls.specs.history.Rules.Line.{due_for, due_in}
 use Rattle.dsql_laws_calls.specs.history.Rules.Sent.{line_of}
-use Rattle.dsql_laws_calls.specs.history.Rules.Settled.{Settled, goes_on_but, is_settled_but, owes_nothing, uses_what_is_lent}
+use Rattle.dsql_laws_calls.specs.history.Rules.Settled.{Settled, calls_stand_but, is_settled_but, owes_nothing, uses_what_is_lent}
 use Rattle.dsql_laws_calls.specs.history.Rules.Stands.{stand}
 use Rattle.dsql_laws_calls.specs.history.Legal.{Lawful}
 use Rattle.dsql_laws_calls.specs.laws.Asked.{with_asked}
@@ -104,7 +104,7 @@ settled_asked H n l h may few restless =
     record { nothing_owed = none_owed H n (ask_outcome H n) none; used = asked_used H n l none may h; somewhere = asked_goes_on H n l none may h few restless }
 
 -- Each other call stays where it stood as the call is lent a connection.
-others_lent : (H : List Event) (c t : ℕ) (own : Owner) (n : ℕ) → Lawful (Pool (Lend c t own n) ∷ H) → goes_on_but n H ≡ true → goes_on_but n (Pool (Lend c t own n) ∷ H) ≡ true
+others_lent : (H : List Event) (c t : ℕ) (own : Owner) (n : ℕ) → Lawful (Pool (Lend c t own n) ∷ H) → calls_stand_but n H ≡ true → calls_stand_but n (Pool (Lend c t own n) ∷ H) ≡ true
 others_lent H c t own n l h = each_stands n n (unfinished H) H (Pool (Lend c t own n) ∷ H) (λ m u apart was. stand_other H c t own n m l apart (was apart)) h
 
 -- After a lending, all is settled except for the call itself, which may rest with its connection.
@@ -112,13 +112,13 @@ others_lent H c t own n l h = each_stands n n (unfinished H) H (Pool (Lend c t o
 pub settled_lent : (H : List Event) (c t n : ℕ) → Lawful (Pool (Lend c t (owner_of H n) n) ∷ H) → is_settled_but n H ≡ true → may_ask H n ≡ true → ask_outcome H n ≡ Ok (asked.Lent c t)
     → is_settled_but n (Pool (Lend c t (owner_of H n) n) ∷ H) ≡ true
 settled_lent H c t n l h may is =
-    let a = both (owes_nothing H) (uses_what_is_lent H && goes_on_but n H) h in
-    let b = both (uses_what_is_lent H) (goes_on_but n H) a.1 in
+    let a = both (owes_nothing H) (uses_what_is_lent H && calls_stand_but n H) h in
+    let b = both (uses_what_is_lent H) (calls_stand_but n H) a.1 in
     let K = Pool (Lend c t (owner_of H n) n) ∷ H in
     let none = settled_owes H n h in
     let used : uses_what_is_lent K ≡ true = sym (ap (λ o. uses_what_is_lent (with_asked n o H)) is) ∙ asked_used H n l.0 none may h in
-    together (owes_nothing K) (uses_what_is_lent K && goes_on_but n K) (none_owed H n (Ok (asked.Lent c t)) none)
-    (together (uses_what_is_lent K) (goes_on_but n K) used (others_lent H c t (owner_of H n) n l b.1))
+    together (owes_nothing K) (uses_what_is_lent K && calls_stand_but n K) (none_owed H n (Ok (asked.Lent c t)) none)
+    (together (uses_what_is_lent K) (calls_stand_but n K) used (others_lent H c t (owner_of H n) n l b.1))
 
 -- A connection begins to be opened for the call.
 

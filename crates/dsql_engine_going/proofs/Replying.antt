@@ -18,7 +18,7 @@ use Rattle.dsql_laws_calls.specs.history.Rules.Course.{keeps_course}
 use Rattle.dsql_laws_calls.specs.history.Rules.Line.{due_for}
 use Rattle.dsql_laws_calls.specs.history.Rules.Order.{follows}
 use Rattle.dsql_laws_calls.specs.history.Rules.Replies.{gave_back, has_cause, is_told_too_many}
-use Rattle.dsql_laws_calls.specs.history.Rules.Settled.{Settled, goes_on_but, is_settled_but, owes_nothing, uses_what_is_lent}
+use Rattle.dsql_laws_calls.specs.history.Rules.Settled.{Settled, calls_stand_but, is_settled_but, owes_nothing, uses_what_is_lent}
 use Rattle.dsql_laws_calls.specs.history.Rules.Stands.{stand}
 use Rattle.dsql_laws_calls.specs.history.Legal.{Allowed}
 use Rattle.dsql_laws_calls.proofs.laws.Tests.{both, together, same_itself}
@@ -37,7 +37,7 @@ no_moves [] h = refl
 no_moves (m ∷ ms) h = absurd cc
 
 pub settled_owes : (H : List Event) (n : ℕ) → is_settled_but n H ≡ true → owed H ≡ []
-settled_owes H n h = no_moves (owed H) (both (owes_nothing H) (uses_what_is_lent H && goes_on_but n H) h).0
+settled_owes H n h = no_moves (owed H) (both (owes_nothing H) (uses_what_is_lent H && calls_stand_but n H) h).0
 
 none_is : (d : Option DriverCall) → is_some d ≡ false → is_none d ≡ true
 none_is None h = refl
@@ -80,8 +80,8 @@ many_cause H n may many = or_right (is_reply (reply_due H n) TooMany) (may_ask H
 
 pub settled_replied : (H : List Event) (n : ℕ) (r : Reply) → gave_back H n ≡ true → is_settled_but n H ≡ true → Settled (Replied n r ∷ H)
 settled_replied H n r gave h =
-    let a = both (owes_nothing H) (uses_what_is_lent H && goes_on_but n H) h in
-    let b = both (uses_what_is_lent H) (goes_on_but n H) a.1 in
+    let a = both (owes_nothing H) (uses_what_is_lent H && calls_stand_but n H) h in
+    let b = both (uses_what_is_lent H) (calls_stand_but n H) a.1 in
     record { nothing_owed = refl; used = used_replied H n r gave ∙ b.0; somewhere = goes_on_replied H n r b.1 }
 
 pub replied_finished : (H : List Event) (n : ℕ) (r : Reply) → is_unfinished (Replied n r ∷ H) n ≡ false

@@ -12,7 +12,7 @@ use Rattle.dsql_laws_calls.specs.tx.declared.end.TxEnd.TheVariants as tx_ends
 use Rattle.dsql_laws_calls.specs.works.Same.{same_cell, same_cells}
 use Rattle.dsql_laws_calls.specs.works.declared.fault_word.FaultWord.{FaultWord}
 use Rattle.dsql_laws_calls.specs.works.declared.fault_word.FaultWord.TheVariants as words
-use Rattle.dsql_laws_calls.specs.works.Replies.{same_word, same_cause, same_over, same_columns}
+use Rattle.dsql_laws_calls.specs.works.Replies.{same_word, same_cancel_cause, same_over, same_columns}
 use Rattle.dsql_laws_calls.specs.history.Same.{same_end, same_stats, same_reply, same_tx_end}
 use Rattle.dsql_laws_calls.specs.history.declared.reply.DbEnd.{DbEnd}
 use Rattle.dsql_laws_calls.specs.history.declared.reply.DbEnd.TheVariants as ends
@@ -38,7 +38,7 @@ word_itself : (fault : FaultWord) → same_word fault fault ≡ true
 word_itself words.FromNull = refl
 word_itself _ = refl
 
-cause_itself : (cause : Cause) → same_cause cause cause ≡ true
+cause_itself : (cause : Cause) → same_cancel_cause cause cause ≡ true
 cause_itself causes.Canceled = refl
 cause_itself causes.Deadline = refl
 

@@ -9,7 +9,7 @@ use Rattle.dsql_laws_calls.specs.history.Readers.Calls.{is_busy, next_call}
 use Rattle.dsql_laws_calls.specs.history.Readers.Owed.{owed}
 use Rattle.dsql_laws_calls.specs.history.Rules.Course.{keeps_course}
 use Rattle.dsql_laws_calls.specs.history.Rules.Order.{follows}
-use Rattle.dsql_laws_calls.specs.history.Rules.Settled.{Settled, goes_on, is_settled_but, owes_nothing, uses_what_is_lent}
+use Rattle.dsql_laws_calls.specs.history.Rules.Settled.{Settled, calls_stand, is_settled_but, owes_nothing, uses_what_is_lent}
 use Rattle.dsql_laws_calls.specs.history.Legal.{Allowed, Lawful}
 use Rattle.dsql_laws_calls.proofs.laws.OwedAllowed.{owed_made}
 use Rattle.dsql_laws_calls.proofs.laws.Tests.{same_itself, together}
@@ -28,7 +28,7 @@ use Rattle.dsql_engine_going.proofs.SettledBut.{goes_on_any}
 
 -- If all is settled, all except call 0 is, which doesn't exist.
 pub settled_but_none : (H : List Event) → Settled H → is_settled_but 0 H ≡ true
-settled_but_none H s = together (owes_nothing H) (uses_what_is_lent H && goes_on H) s.nothing_owed (together (uses_what_is_lent H) (goes_on H) s.used s.somewhere)
+settled_but_none H s = together (owes_nothing H) (uses_what_is_lent H && calls_stand H) s.nothing_owed (together (uses_what_is_lent H) (calls_stand H) s.used s.somewhere)
 
 course_of_entry : (H : List Event) (client n : ℕ) (op : Op) → is_empty H ≡ false → keeps_course H (Entered client n op) ≡ true
 course_of_entry [] client n op begun = absurd cc

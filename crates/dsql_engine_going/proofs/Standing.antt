@@ -20,7 +20,7 @@ use Rattle.dsql_laws_calls.specs.history.Readers.Unfinished.{unfinished, is_unfi
 use Rattle.dsql_laws_calls.specs.history.Rules.Asking.{may_ask}
 use Rattle.dsql_laws_calls.specs.history.Rules.Flights.{has_flight, is_in_flight, is_taken, permitted}
 use Rattle.dsql_laws_calls.specs.history.Rules.Line.{due_for}
-use Rattle.dsql_laws_calls.specs.history.Rules.Settled.{Settled, goes_on, goes_on_but, is_settled_but, owes_nothing, uses_what_is_lent}
+use Rattle.dsql_laws_calls.specs.history.Rules.Settled.{Settled, calls_stand, calls_stand_but, is_settled_but, owes_nothing, uses_what_is_lent}
 use Rattle.dsql_laws_calls.specs.history.Rules.Stands.{opens, stands, has_to_reply, stand}
 use Rattle.dsql_laws_calls.specs.history.Legal.{Lawful}
 use Rattle.dsql_laws_calls.proofs.laws.Numbered.{unfinished_from_one}
@@ -94,7 +94,7 @@ unsent_flights K n flights silent =
 
 -- All is settled if the call itself stands somewhere.
 
-goes_on_itself : (H : List Event) (n : ℕ) → goes_on_but n H ≡ true → is_some (stand H n) ≡ true → goes_on H ≡ true
+goes_on_itself : (H : List Event) (n : ℕ) → calls_stand_but n H ≡ true → is_some (stand H n) ≡ true → calls_stand H ≡ true
 goes_on_itself H n h there = each_stands n 0 (unfinished H) H H (λ m u some was. by m (same_or_not m n) was) h
   where
     by : (m : ℕ) → (m ≡ n) ⊎ (m ≢ n) → (m ≢ n → is_some (stand H m) ≡ true) → is_some (stand H m) ≡ true
@@ -103,8 +103,8 @@ goes_on_itself H n h there = each_stands n 0 (unfinished H) H H (λ m u some was
 
 pub settled_itself : (H : List Event) (n : ℕ) → is_settled_but n H ≡ true → is_some (stand H n) ≡ true → Settled H
 settled_itself H n h there =
-    let a = both (owes_nothing H) (uses_what_is_lent H && goes_on_but n H) h in
-    let b = both (uses_what_is_lent H) (goes_on_but n H) a.1 in
+    let a = both (owes_nothing H) (uses_what_is_lent H && calls_stand_but n H) h in
+    let b = both (uses_what_is_lent H) (calls_stand_but n H) a.1 in
     record { nothing_owed = a.0; used = b.0; somewhere = goes_on_itself H n b.1 there }
 
 -- A call that has nothing to send and nothing to reply, and may not ask, wants a connection.
@@ -114,7 +114,7 @@ pub wanting : (H : List Event) (n : ℕ) → Lawful H → is_settled_but n H ≡
 wanting H n l settled u silent unsettled may = by (wants n (pool H)) refl
   where
     used : uses_what_is_lent H ≡ true
-    used = (both (uses_what_is_lent H) (goes_on_but n H) (both (owes_nothing H) (uses_what_is_lent H && goes_on_but n H) settled).1).0
+    used = (both (uses_what_is_lent H) (calls_stand_but n H) (both (owes_nothing H) (uses_what_is_lent H && calls_stand_but n H) settled).1).0
 
     untold : is_some (reply_due H n) ≡ true → ⊥
     untold told = let clash : true ≡ false = sym told ∙ unsettled in cc

@@ -19,7 +19,7 @@ use Rattle.dsql_engine_going.specs.history.Readers.Unfinished.{is_unfinished}
 use Rattle.dsql_engine_going.specs.history.Readers.Works.{asks, work}
 use Rattle.dsql_engine_going.specs.history.Rules.Causes.{goes_in_turn}
 use Rattle.dsql_engine_going.specs.history.Rules.Line.{is_used, may_come, sends_from}
-use Rattle.dsql_engine_going.specs.history.Rules.Settled.{Settled, goes_on_but, is_kept, is_settled_but}
+use Rattle.dsql_engine_going.specs.history.Rules.Settled.{Settled, calls_stand_but, is_kept, is_settled_but}
 use Rattle.dsql_engine_going.specs.history.Legal.{Allowed, Calm, Lawful}
 use Rattle.dsql_engine_going.specs.laws.Leaving.{MayLeave}
 use Rattle.dsql_engine_going.specs.laws.OwedMade.{with_moves}
@@ -79,7 +79,7 @@ heard_lent : (H : List Event) (e : Entry) (n : ℕ) → Lawful (Heard e ∷ H) �
 heard_lent H e n l at = record { lawful = l; lent = at.there }
 
 -- After the answer, each other call stands somewhere.
-others : (H : List Event) (e : Entry) (n : ℕ) → Lawful (Heard e ∷ H) → Calm H → Settled H → LentTo (place H e.conn) n → goes_on_but e.call_no (Heard e ∷ H) ≡ true
+others : (H : List Event) (e : Entry) (n : ℕ) → Lawful (Heard e ∷ H) → Calm H → Settled H → LentTo (place H e.conn) n → calls_stand_but e.call_no (Heard e ∷ H) ≡ true
 others H e n l calm s at = goes_on_heard H e at.tenure at.owner (heard_lent H e n l at) calm s.somewhere
 
 -- All except the answer's call is settled if its connection stays in use.

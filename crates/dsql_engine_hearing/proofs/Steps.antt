@@ -20,7 +20,7 @@ use Rattle.dsql_engine_going.specs.history.Readers.Unfinished.{is_unfinished}
 use Rattle.dsql_engine_going.specs.history.Rules.Flights.{is_in_flight, without_flight}
 use Rattle.dsql_engine_going.specs.history.Rules.Line.{due_for}
 use Rattle.dsql_engine_going.specs.history.Rules.Moves.{hears_in}
-use Rattle.dsql_engine_going.specs.history.Rules.Settled.{Settled, goes_on_but, is_settled_but, owes_nothing, uses_what_is_lent}
+use Rattle.dsql_engine_going.specs.history.Rules.Settled.{Settled, calls_stand_but, is_settled_but, owes_nothing, uses_what_is_lent}
 use Rattle.dsql_engine_going.specs.history.Legal.{Allowed, Lawful}
 use Rattle.dsql_engine_going.proofs.laws.Numbered.{unfinished_from_one}
 use Rattle.dsql_engine_going.proofs.laws.OwedAllowed.{owed_made}
@@ -117,8 +117,8 @@ nobody_goes P n l none =
 pub settled_nobody : (P : List Event) (n : ℕ) → n ≡ 0 → is_settled_but n P ≡ true → Settled P
 settled_nobody P n none h =
     let h0 : is_settled_but 0 P ≡ true = subst (λ m. is_settled_but m P ≡ true) none h in
-    let a = both (owes_nothing P) (uses_what_is_lent P && goes_on_but 0 P) h0 in
-    let b = both (uses_what_is_lent P) (goes_on_but 0 P) a.1 in
+    let a = both (owes_nothing P) (uses_what_is_lent P && calls_stand_but 0 P) h0 in
+    let b = both (uses_what_is_lent P) (calls_stand_but 0 P) a.1 in
     record { nothing_owed = a.0; used = b.0; somewhere = b.1 }
 
 pub unfinished_on : (H : List Event) (e : Entry) (n : ℕ) → Lawful H → Allowed H (Heard e) → LentTo (place H e.conn) n → e.call_no ≢ 0 → is_unfinished (let_go e.conn n (Heard e ∷ H)) e.call_no ≡ true

@@ -31,8 +31,7 @@ use Rattle.dsql_engine_hearing.specs.tx.declared.end.TxEnd.TheVariants as ends
 use Rattle.dsql_engine_hearing.specs.works.declared.work.Aim.{Aim}
 use Rattle.dsql_engine_hearing.specs.works.declared.work.Aim.TheVariants as aims
 use Rattle.dsql_engine_hearing.specs.works.Exchanges.{exchanges}
-use Rattle.dsql_engine_hearing.specs.works.Line as plain
-use Rattle.dsql_engine_hearing.specs.works.Line.{Asked, handed, line_after, run_for, sent_as, sent_over, test_of, body_with, found}
+use Rattle.dsql_engine_hearing.specs.works.Line.{Asked, handed, line_after, run_for, sent_as, sent_over, test_of, body_with, found, body_after, course_of}
 use Rattle.dsql_engine_hearing.specs.works.Same.{same_params, same_truth, same_value}
 use Rattle.dsql_engine_hearing.proofs.laws.Tests.{same_itself, together}
 use Rattle.dsql_engine_hearing.proofs.laws_calls.Itself.{bytes_itself, int_itself, level_itself, name_itself, truth_itself}
@@ -53,7 +52,7 @@ use Rattle.dsql_engine_hearing.specs.history.Readers.Unfinished.{is_unfinished}
 use Rattle.dsql_engine_hearing.specs.history.Readers.Works.{borrower, hands_out_in, scope, work, works}
 use Rattle.dsql_engine_hearing.specs.history.Rules.Ending.{end_after, ended_by_call, ending, ending_at, ending_with, first_closing}
 use Rattle.dsql_engine_hearing.specs.history.Rules.Line.{due_for, due_in, due_inside, is_due, sends_in}
-use Rattle.dsql_engine_hearing.specs.history.Rules.Sent.{asked_by, begin_after, begin_line, closing, is_reset_due, line_at, line_of, line_with, sent_for, untested, wish}
+use Rattle.dsql_engine_hearing.specs.history.Rules.Sent.{asked_by, begin_after, begin_line, close_due, is_reset_due, line_at, line_of, line_with, sent_for, untested, wish}
 
 -- A driver call other than a Connect or a Shut is due to itself.
 
@@ -117,18 +116,18 @@ over_within : (can : Caps) (asked : Asked) (d : Option Due) → is_within (sent_
 over_within can asked None = refl
 over_within can asked (Some d) = sent_within can asked d
 
-body_within : (can : Caps) (asked : Asked) (w : Wish) (made : List Exchange) (rows : Option ℕ) → is_within (plain.body_with can false asked w made rows) ≡ true
-body_within can asked w made None = sent_within can asked (comes_next (plain.course_of asked.aim) can (length asked.params) (found false) made)
+body_within : (can : Caps) (asked : Asked) (w : Wish) (made : List Exchange) (rows : Option ℕ) → is_within (body_with can false asked w made rows) ≡ true
+body_within can asked w made None = sent_within can asked (comes_next (course_of asked.aim) can (length asked.params) (found false) made)
 body_within can asked w made (Some rows) = over_within can asked (rows_next w can (length asked.params) made rows)
 
 line_within : (can : Caps) (reset : Bool) (asked : Asked) (w : Wish) (line : List Entry) → is_within (line_after can reset asked w line) ≡ true
-line_within can reset asked w [] = either_within reset (Some Reset) (plain.body_after can false asked w []) refl (body_within can asked w [] (handed asked.aim []))
+line_within can reset asked w [] = either_within reset (Some Reset) (body_after can false asked w []) refl (body_within can asked w [] (handed asked.aim []))
 line_within can reset asked w (e ∷ earlier) =
     let made = exchanges (e ∷ earlier) in
-    either_within (is_bad e.answer || is_valid e.call) None (plain.body_after can false asked w made) refl (body_within can asked w made (handed asked.aim made))
+    either_within (is_bad e.answer || is_valid e.call) None (body_after can false asked w made) refl (body_within can asked w made (handed asked.aim made))
 
 inner_within : (can : Caps) (bad : Bool) (asked : Asked) (w : Wish) (made : List Exchange) (rows : Option ℕ) → is_within (body_with can bad asked w made rows) ≡ true
-inner_within can bad asked w made None = sent_within can asked (comes_next (plain.course_of asked.aim) can (length asked.params) (found bad) made)
+inner_within can bad asked w made None = sent_within can asked (comes_next (course_of asked.aim) can (length asked.params) (found bad) made)
 inner_within can bad asked w made (Some rows) = over_within can asked (rows_next_of courses.Query bad w can (length asked.params) made rows)
 
 begin_within : (can : Caps) (reset : Bool) (level : Level) (read_only : Bool) (line : List Entry) → is_within (begin_line can reset (Begin level read_only) line) ≡ true
@@ -166,8 +165,8 @@ or_within (Some call) d h k = h
 first_within : (H : List Event) (k n : ℕ) (ws : List Work) → is_within (first_closing H k n ws) ≡ true
 first_within H k n [] = refl
 first_within H k n (w ∷ ws) =
-    or_within (cond (hands_out_in k w) (closing H n) None) (first_closing H k (n + 1) ws)
-    (either_within (hands_out_in k w) (closing H n) None (either_within (are_over H n) (line_of H n wishes.Close) None (line_of_within H n wishes.Close) refl) refl) (first_within H k (n + 1) ws)
+    or_within (cond (hands_out_in k w) (close_due H n) None) (first_closing H k (n + 1) ws)
+    (either_within (hands_out_in k w) (close_due H n) None (either_within (are_over H n) (line_of H n wishes.Close) None (line_of_within H n wishes.Close) refl) refl) (first_within H k (n + 1) ws)
 
 ended_within : (end : TxEnd) → is_within (Some (ended_by_call end)) ≡ true
 ended_within ends.Commit = refl

@@ -28,8 +28,7 @@ use Rattle.dsql_engine_hearing.specs.tx.declared.end.TxEnd.TheVariants as ends
 use Rattle.dsql_engine_hearing.specs.works.declared.work.Aim.{Aim}
 use Rattle.dsql_engine_hearing.specs.works.declared.work.Aim.TheVariants as aims
 use Rattle.dsql_engine_hearing.specs.works.Exchanges.{exchanges}
-use Rattle.dsql_engine_hearing.specs.works.Line as plain
-use Rattle.dsql_engine_hearing.specs.works.Line.{Asked, handed, run_for, sent_as, sent_over, test_of, body_with, found}
+use Rattle.dsql_engine_hearing.specs.works.Line.{Asked, handed, run_for, sent_as, sent_over, test_of, body_with, found, body_after, course_of, line_after}
 use Rattle.dsql_engine_hearing.specs.works.Same.{same_truth}
 use Rattle.dsql_engine_hearing.proofs.laws.Tests.{same_itself, together}
 use Rattle.dsql_engine_hearing.proofs.laws_calls.Itself.{level_itself, truth_itself}
@@ -50,7 +49,7 @@ use Rattle.dsql_engine_hearing.specs.history.Readers.Transactions.{is_begun, tx_
 use Rattle.dsql_engine_hearing.specs.history.Readers.Works.{borrower, hands_out_in, scope, work, works}
 use Rattle.dsql_engine_hearing.specs.history.Rules.Ending.{end_after, ended_by_call, ending, ending_at, ending_with, first_closing}
 use Rattle.dsql_engine_hearing.specs.history.Rules.Line.{is_due, tidying}
-use Rattle.dsql_engine_hearing.specs.history.Rules.Sent.{asked_by, begin_after, begin_line, closing, is_reset_due, line_at, line_of, line_with, untested}
+use Rattle.dsql_engine_hearing.specs.history.Rules.Sent.{asked_by, begin_after, begin_line, close_due, is_reset_due, line_at, line_of, line_with, untested}
 use Rattle.dsql_engine_hearing.specs.history.Legal.{Lawful}
 use Rattle.dsql_engine_hearing.proofs.lines.OverRows.{to_tidy}
 
@@ -92,18 +91,18 @@ over_opens : (can : Caps) (asked : Asked) (d : Option Due) → opens_none (sent_
 over_opens can asked None = refl
 over_opens can asked (Some d) = sent_opens can asked d
 
-body_opens : (can : Caps) (asked : Asked) (w : Wish) (made : List Exchange) (o : Option ℕ) → opens_none (plain.body_with can false asked w made o) ≡ true
-body_opens can asked w made None = sent_opens can asked (comes_next (plain.course_of asked.aim) can (length asked.params) (found false) made)
+body_opens : (can : Caps) (asked : Asked) (w : Wish) (made : List Exchange) (o : Option ℕ) → opens_none (body_with can false asked w made o) ≡ true
+body_opens can asked w made None = sent_opens can asked (comes_next (course_of asked.aim) can (length asked.params) (found false) made)
 body_opens can asked w made (Some rows) = over_opens can asked (rows_next w can (length asked.params) made rows)
 
-call_opens : (can : Caps) (reset : Bool) (asked : Asked) (w : Wish) (L : List Entry) → opens_none (plain.line_after can reset asked w L) ≡ true
-call_opens can reset asked w [] = either reset (Some calls.Reset) (plain.body_after can false asked w []) refl (body_opens can asked w [] (handed asked.aim []))
+call_opens : (can : Caps) (reset : Bool) (asked : Asked) (w : Wish) (L : List Entry) → opens_none (line_after can reset asked w L) ≡ true
+call_opens can reset asked w [] = either reset (Some calls.Reset) (body_after can false asked w []) refl (body_opens can asked w [] (handed asked.aim []))
 call_opens can reset asked w (e ∷ earlier) =
     let made = exchanges (e ∷ earlier) in
-    either (is_bad e.answer || is_valid e.call) None (plain.body_after can false asked w made) refl (body_opens can asked w made (handed asked.aim made))
+    either (is_bad e.answer || is_valid e.call) None (body_after can false asked w made) refl (body_opens can asked w made (handed asked.aim made))
 
 inner_opens : (can : Caps) (bad : Bool) (asked : Asked) (w : Wish) (made : List Exchange) (o : Option ℕ) → opens_none (body_with can bad asked w made o) ≡ true
-inner_opens can bad asked w made None = sent_opens can asked (comes_next (plain.course_of asked.aim) can (length asked.params) (found bad) made)
+inner_opens can bad asked w made None = sent_opens can asked (comes_next (course_of asked.aim) can (length asked.params) (found bad) made)
 inner_opens can bad asked w made (Some rows) = over_opens can asked (rows_next_of courses.Query bad w can (length asked.params) made rows)
 
 begin_opens : (can : Caps) (reset : Bool) (level : Level) (read_only : Bool) (L : List Entry) → opens_none (begin_line can reset (calls.Begin level read_only) L) ≡ true
@@ -126,13 +125,13 @@ line_opens H n w c at = refl
 
 -- What closes rows, and what ends a transaction.
 
-closing_opens : (H : List Event) (n : ℕ) → opens_none (closing H n) ≡ true
+closing_opens : (H : List Event) (n : ℕ) → opens_none (close_due H n) ≡ true
 closing_opens H n = either (are_over H n) (line_of H n wishes.Close) None (line_opens H n wishes.Close (site H n) (place H (site H n))) refl
 
 first_opens : (H : List Event) (k n : ℕ) (ws : List Work) → opens_none (first_closing H k n ws) ≡ true
 first_opens H k n [] = refl
 first_opens H k n (it ∷ later) =
-    first_or (cond (hands_out_in k it) (closing H n) None) (first_closing H k (n + 1) later) (either (hands_out_in k it) (closing H n) None (closing_opens H n) refl) (first_opens H k (n + 1) later)
+    first_or (cond (hands_out_in k it) (close_due H n) None) (first_closing H k (n + 1) later) (either (hands_out_in k it) (close_due H n) None (closing_opens H n) refl) (first_opens H k (n + 1) later)
 
 ended_opens : (end : TxEnd) → opens_none (Some (ended_by_call end)) ≡ true
 ended_opens ends.Commit = refl
@@ -159,8 +158,8 @@ ending_opens H k = by (tx_end H k)
 
 tidying_opens : (H : List Event) (n : ℕ) → opens_none (tidying H n) ≡ true
 tidying_opens H n =
-    either (is_begun H n) (cond (tx_ender H n == 0) (ending H n) None) (cond (ender H n == 0) (closing H n) None)
-    (either (tx_ender H n == 0) (ending H n) None (ending_opens H n) refl) (either (ender H n == 0) (closing H n) None (closing_opens H n) refl)
+    either (is_begun H n) (cond (tx_ender H n == 0) (ending H n) None) (cond (ender H n == 0) (close_due H n) None)
+    (either (tx_ender H n == 0) (ending H n) None (ending_opens H n) refl) (either (ender H n == 0) (close_due H n) None (closing_opens H n) refl)
 
 pub neither : (H : List Event) (n : ℕ) (q : DriverCall) → tidying H n ≡ Some q → (is_connect q ≡ false) × (is_shut q ≡ false)
 neither H n q is = by q (ap opens_none (sym is) ∙ tidying_opens H n)

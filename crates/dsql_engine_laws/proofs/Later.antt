@@ -7,7 +7,7 @@ use Rattle.std.proofs.lemmas.List.Folds.{list_all-append}
 use Rattle.dsql_engine_hearing.specs.journal.declared.entry.Entry.{Entry}
 use Rattle.dsql_engine_hearing.specs.journal.Kinds.{is_house, number_of}
 use Rattle.dsql_engine_hearing.specs.pool.declared.conn.Place.{Place}
-use Rattle.dsql_engine_hearing.specs.pool.declared.conn.Place.TheVariants.{Lent, Opening}
+use Rattle.dsql_engine_hearing.specs.pool.declared.conn.Place.TheVariants.{Lent}
 use Rattle.dsql_engine_hearing.specs.pool.declared.moves.Move.{Move}
 use Rattle.dsql_engine_hearing.specs.pool.declared.request.Asked.{Asked}
 use Rattle.dsql_engine_hearing.specs.pool.declared.request.Asked.TheVariants as asked

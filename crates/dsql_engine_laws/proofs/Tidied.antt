@@ -18,7 +18,7 @@ use Rattle.dsql_engine_hearing.specs.history.Readers.Transactions.{is_begun, is_
 use Rattle.dsql_engine_hearing.specs.history.Readers.Works.{asks, work}
 use Rattle.dsql_engine_hearing.specs.history.Rules.Ending.{ending, ending_with}
 use Rattle.dsql_engine_hearing.specs.history.Rules.Line.{tidying}
-use Rattle.dsql_engine_hearing.specs.history.Rules.Sent.{closing, line_of}
+use Rattle.dsql_engine_hearing.specs.history.Rules.Sent.{close_due, line_of}
 use Rattle.dsql_engine_hearing.specs.history.Legal.{Lawful}
 use Rattle.dsql_engine_hearing.proofs.laws_calls.Owners.{lent_asks}
 use Rattle.dsql_engine_hearing.proofs.laws_callers.Rows as rows
@@ -36,7 +36,7 @@ ending_over H k h = by (tx_end H k) h
     by None some = absurd cc
     by (Some end) some = refl
 
-closing_over : (H : List Event) (n : ℕ) → is_some (closing H n) ≡ true → are_over H n ≡ true
+closing_over : (H : List Event) (n : ℕ) → is_some (close_due H n) ≡ true → are_over H n ≡ true
 closing_over H n h = by (are_over H n) h
   where
     by : (b : Bool) → is_some (cond b (line_of H n wishes.Close) None) ≡ true → b ≡ true
@@ -63,10 +63,10 @@ tidied H n l own h = by (is_begun H n) h
     of_rows (inl ended) = ended
     of_rows (inr inside) = absurd (never (sym inside ∙ asks_outside (work H n) own))
 
-    by : (b : Bool) → is_some (cond b (cond (tx_ender H n == 0) (ending H n) None) (cond (ender H n == 0) (closing H n) None)) ≡ true → has_ended H ≡ true
+    by : (b : Bool) → is_some (cond b (cond (tx_ender H n == 0) (ending H n) None) (cond (ender H n == 0) (close_due H n) None)) ≡ true → has_ended H ≡ true
     by true some = let d = by_none (tx_ender H n) (ending H n) some in transacted.over_unended H n l (ending_over H n d.1) d.0
     by false some =
-        let d = by_none (ender H n) (closing H n) some in
+        let d = by_none (ender H n) (close_due H n) some in
         of_rows (rows.over_unended H n l (closing_over H n d.1) d.0)
 
 -- The layer tidies up on a lent connection only after the run has ended.

@@ -33,7 +33,7 @@ use Rattle.dsql_laws_calls.specs.history.Readers.Transactions.{is_begun, tx_end,
 use Rattle.dsql_laws_calls.specs.history.Readers.Works.{aim_of, borrower, hands_out_in, owner_as, owner_of, scope, work, works}
 use Rattle.dsql_laws_calls.specs.history.Rules.Ending.{end_after, ended_by_call, ending, ending_at, ending_with, first_closing}
 use Rattle.dsql_laws_calls.specs.history.Rules.Line.{tidying}
-use Rattle.dsql_laws_calls.specs.history.Rules.Sent.{asked_by, closing, is_reset_due, line_at, line_of, sent_for, untested}
+use Rattle.dsql_laws_calls.specs.history.Rules.Sent.{asked_by, close_due, is_reset_due, line_at, line_of, sent_for, untested}
 use Rattle.dsql_laws_calls.specs.history.Legal.{Lawful}
 use Rattle.dsql_laws_calls.proofs.Beginnings.{begin_owner}
 use Rattle.dsql_laws_calls.proofs.Begun.{begun_begins}
@@ -99,7 +99,7 @@ sent_unstated H k wishes.Close l made = rows_unstated H k wishes.Close l made
 
 -- What ends a transaction, and what the layer tidies up.
 
-closing_unstated : (H : List Event) (n : ℕ) → Lawful H → is_unstated (closing H n) ≡ true
+closing_unstated : (H : List Event) (n : ℕ) → Lawful H → is_unstated (close_due H n) ≡ true
 closing_unstated H n l = by (are_over H n) refl
   where
     by : (b : Bool) → are_over H n ≡ b → is_unstated (cond b (line_of H n wishes.Close) None) ≡ true
@@ -113,8 +113,8 @@ or_unstated (Some call) other h k = h
 first_unstated : (H : List Event) (k n : ℕ) (ws : List Work) → Lawful H → is_unstated (first_closing H k n ws) ≡ true
 first_unstated H k n [] l = refl
 first_unstated H k n (it ∷ later) l =
-    or_unstated (cond (hands_out_in k it) (closing H n) None) (first_closing H k (n + 1) later)
-    (unstated_either (hands_out_in k it) (closing H n) None (closing_unstated H n l) refl) (first_unstated H k (n + 1) later l)
+    or_unstated (cond (hands_out_in k it) (close_due H n) None) (first_closing H k (n + 1) later)
+    (unstated_either (hands_out_in k it) (close_due H n) None (closing_unstated H n l) refl) (first_unstated H k (n + 1) later l)
 
 call_unstated : (end : TxEnd) → is_unstated (Some (ended_by_call end)) ≡ true
 call_unstated ends.Commit = refl
@@ -141,9 +141,9 @@ ending_unstated H k l = by (tx_end H k)
 
 tidying_unstated : (H : List Event) (n : ℕ) → Lawful H → is_unstated (tidying H n) ≡ true
 tidying_unstated H n l =
-    unstated_either (is_begun H n) (cond (tx_ender H n == 0) (ending H n) None) (cond (ender H n == 0) (closing H n) None)
+    unstated_either (is_begun H n) (cond (tx_ender H n == 0) (ending H n) None) (cond (ender H n == 0) (close_due H n) None)
     (unstated_either (tx_ender H n == 0) (ending H n) None (ending_unstated H n l) refl)
-    (unstated_either (ender H n == 0) (closing H n) None (closing_unstated H n l) refl)
+    (unstated_either (ender H n == 0) (close_due H n) None (closing_unstated H n l) refl)
 
 -- The same, stated of the driver call itself.
 

@@ -12,14 +12,13 @@ use Rattle.dsql_laws_calls.specs.course.declared.course.Wish.{Wish}
 use Rattle.dsql_laws_calls.specs.course.declared.course.Wish.TheVariants as wishes
 use Rattle.dsql_laws_calls.specs.course.Line.{first_wanted, or_then, steps_left, wanted, when}
 use Rattle.dsql_laws_calls.specs.course.Made.{Exchange, own_cursor, own_handle, rows_are_over, was_skipped, went_bad}
-use Rattle.dsql_laws_calls.specs.course.Rows.{closing, closing_of, rows_next_if, rows_next_of}
+use Rattle.dsql_laws_calls.specs.course.Rows.{no_more_wanted, closing_of, rows_next_if, rows_next_of}
 use Rattle.dsql_laws_calls.specs.course.Steps.{Step, RunText, PrepareText, CloseCursor, CloseHandle, PingIt, UndoIt}
 use Rattle.dsql_laws_calls.specs.journal.declared.entry.Entry.{Entry}
 use Rattle.dsql_laws_calls.specs.works.declared.work.Aim.{Aim}
-use Rattle.dsql_laws_calls.specs.works.declared.work.Aim.TheVariants.{Execute, Ping}
+use Rattle.dsql_laws_calls.specs.works.declared.work.Aim.TheVariants.{Execute}
 use Rattle.dsql_laws_calls.specs.works.Exchanges.{exchanges}
-use Rattle.dsql_laws_calls.specs.works.Line as plain
-use Rattle.dsql_laws_calls.specs.works.Line.{Asked, handed, line_after, sent_as, sent_over, test_of, body_with}
+use Rattle.dsql_laws_calls.specs.works.Line.{Asked, handed, line_after, sent_as, sent_over, test_of, body_with, body_after}
 use Rattle.dsql_engine_exchanged.specs.Filled.{carries_statement}
 
 -- Steps of a course that carry no statement.
@@ -50,7 +49,7 @@ handle_bare true None = refl
 handle_bare true (Some handle) = refl
 handle_bare false own = refl
 
-wanted_bare : (can : Caps) (args : ℕ) (bad : Bool) (made : List Exchange) (step : Step) → is_bare_if_any (wanted courses.One can args (closing bad) made step) ≡ true
+wanted_bare : (can : Caps) (args : ℕ) (bad : Bool) (made : List Exchange) (step : Step) → is_bare_if_any (wanted courses.One can args (no_more_wanted bad) made step) ≡ true
 wanted_bare can args bad made RunText = ap (λ b. is_bare_if_any (when b due.Text)) (and-false can.fast_query)
 wanted_bare can args bad made PrepareText = ap (λ b. is_bare_if_any (when b due.Prepare)) (and-false (not can.fast_query || was_skipped made))
 wanted_bare can args bad made CloseCursor = cursor_bare (not bad) (own_cursor made)
@@ -63,16 +62,16 @@ either_bare : (one : Option Due) (other : Due) → is_bare_if_any one ≡ true �
 either_bare None other h k = k
 either_bare (Some call) other h k = h
 
-first_bare : (can : Caps) (args : ℕ) (bad : Bool) (made : List Exchange) (steps : List Step) → is_bare (first_wanted courses.One can args (closing bad) made steps) ≡ true
+first_bare : (can : Caps) (args : ℕ) (bad : Bool) (made : List Exchange) (steps : List Step) → is_bare (first_wanted courses.One can args (no_more_wanted bad) made steps) ≡ true
 first_bare can args bad made [] = refl
 first_bare can args bad made (step ∷ later) =
-    either_bare (wanted courses.One can args (closing bad) made step) (first_wanted courses.One can args (closing bad) made later) (wanted_bare can args bad made step) (first_bare can args bad made later)
+    either_bare (wanted courses.One can args (no_more_wanted bad) made step) (first_wanted courses.One can args (no_more_wanted bad) made later) (wanted_bare can args bad made step) (first_bare can args bad made later)
 
 closing_bare : (can : Caps) (args : ℕ) (bad : Bool) (made : List Exchange) → is_bare (closing_of courses.Query bad can args made) ≡ true
 closing_bare can args bad made = by (went_bad made) (first_bare can args bad made (steps_left courses.One made))
   where
-    by : (b : Bool) → is_bare (first_wanted courses.One can args (closing bad) made (steps_left courses.One made)) ≡ true
-        → is_bare (if b then due.Over else first_wanted courses.One can args (closing bad) made (steps_left courses.One made)) ≡ true
+    by : (b : Bool) → is_bare (first_wanted courses.One can args (no_more_wanted bad) made (steps_left courses.One made)) ≡ true
+        → is_bare (if b then due.Over else first_wanted courses.One can args (no_more_wanted bad) made (steps_left courses.One made)) ≡ true
     by true h = refl
     by false h = h
 
@@ -119,7 +118,7 @@ inner_unstated can bad asked wish made (Some rows) h = next_unstated can bad ask
 inner_unstated can bad asked wish made None h = absurd cc
 
 -- On the database, what is sent over rows carries no statement.
-body_unstated : (can : Caps) (asked : Asked) (wish : Wish) (made : List Exchange) (rows : Option ℕ) → is_some rows ≡ true → is_unstated (plain.body_with can false asked wish made rows) ≡ true
+body_unstated : (can : Caps) (asked : Asked) (wish : Wish) (made : List Exchange) (rows : Option ℕ) → is_some rows ≡ true → is_unstated (body_with can false asked wish made rows) ≡ true
 body_unstated can asked wish made (Some rows) h = next_unstated can false asked wish made rows
 body_unstated can asked wish made None h = absurd cc
 
@@ -134,4 +133,4 @@ pub line_unstated : (can : Caps) (reset_due : Bool) (asked : Asked) (wish : Wish
 line_unstated can reset_due asked wish [] h = absurd (nothing_handed asked h)
 line_unstated can reset_due asked wish (e ∷ earlier) h =
     let made = exchanges (e ∷ earlier) in
-    unstated_either (is_bad e.answer || is_valid e.call) None (plain.body_after can false asked wish made) refl (body_unstated can asked wish made (handed asked.aim made) h)
+    unstated_either (is_bad e.answer || is_valid e.call) None (body_after can false asked wish made) refl (body_unstated can asked wish made (handed asked.aim made) h)

@@ -15,7 +15,7 @@ use Rattle.dsql_history_work.specs.driver.declared.call.Level.TheVariants as lev
 use Rattle.dsql_tx.specs.declared.end.TxEnd.{TxEnd}
 use Rattle.dsql_tx.specs.declared.end.TxEnd.TheVariants as ends
 use Rattle.dsql_history_work.specs.Same.{same_truth, same_cells}
-use Rattle.dsql_history_work.specs.Replies.{same_word, same_over, same_columns, same_cause as same_cancel_cause}
+use Rattle.dsql_history_work.specs.Replies.{same_word, same_over, same_columns, same_cancel_cause}
 use Rattle.dsql_history.specs.declared.reply.Reply.{Reply}
 use Rattle.dsql_history.specs.declared.reply.Reply.TheVariants as reply
 use Rattle.dsql_history.specs.declared.reply.Reply.TheVariants.{Result, Rows, Truth, Cells, Driver, BadConn, NumArgs, HighBit, NamedRefused, BadName, Absent, TxDone, RowsClosed, Isolation, ReadOnly, NoNextYet, NoRows, DestCount, Scan, TooMany, DbClosed}

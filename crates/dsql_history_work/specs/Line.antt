@@ -94,18 +94,20 @@ line_after can reset_due asked wish (e ∷ earlier) =
     cond (is_bad e.answer || is_valid e.call) None (body_after can false asked wish (exchanges (e ∷ earlier)))
 
 -- Is true if the driver call is the one that is due.
-abbrev pub is_due : Option DriverCall → DriverCall → Bool
-is_due (Some Reset) Reset = true
-is_due (Some Valid) Valid = true
-is_due (Some Ping) Ping = true
-is_due (Some (Prepare text)) (Prepare other) = bytes_eq text other
-is_due (Some (Exec (Text text) params)) (Exec (Text other) others) = bytes_eq text other && same_params params others
-is_due (Some (Exec (Handle handle) params)) (Exec (Handle other) others) =
+abbrev pub is_due_in_line : Option DriverCall → DriverCall → Bool
+is_due_in_line (Some Reset) Reset = true
+is_due_in_line (Some Valid) Valid = true
+is_due_in_line (Some Ping) Ping = true
+is_due_in_line (Some (Prepare text)) (Prepare other) = bytes_eq text other
+is_due_in_line (Some (Exec (Text text) params)) (Exec (Text other) others) =
+    bytes_eq text other && same_params params others
+is_due_in_line (Some (Exec (Handle handle) params)) (Exec (Handle other) others) =
     (handle == other) && same_params params others
-is_due (Some (Query (Text text) params)) (Query (Text other) others) = bytes_eq text other && same_params params others
-is_due (Some (Query (Handle handle) params)) (Query (Handle other) others) =
+is_due_in_line (Some (Query (Text text) params)) (Query (Text other) others) =
+    bytes_eq text other && same_params params others
+is_due_in_line (Some (Query (Handle handle) params)) (Query (Handle other) others) =
     (handle == other) && same_params params others
-is_due (Some (Next rows)) (Next other) = rows == other
-is_due (Some (CloseRows rows)) (CloseRows other) = rows == other
-is_due (Some (CloseStmt handle)) (CloseStmt other) = handle == other
-is_due _ call = false
+is_due_in_line (Some (Next rows)) (Next other) = rows == other
+is_due_in_line (Some (CloseRows rows)) (CloseRows other) = rows == other
+is_due_in_line (Some (CloseStmt handle)) (CloseStmt other) = handle == other
+is_due_in_line _ call = false

@@ -16,16 +16,16 @@ same_word NotUtf8 NotUtf8 = true
 same_word Unsupported Unsupported = true
 same_word _ _ = false
 
-abbrev pub same_cause : Cause → Cause → Bool
-same_cause Canceled Canceled = true
-same_cause Deadline Deadline = true
-same_cause _ _ = false
+abbrev pub same_cancel_cause : Cause → Cause → Bool
+same_cancel_cause Canceled Canceled = true
+same_cancel_cause Deadline Deadline = true
+same_cancel_cause _ _ = false
 
 abbrev pub same_over : RowsOver → RowsOver → Bool
 same_over overs.Close overs.Close = true
 same_over overs.EndOfRows overs.EndOfRows = true
 same_over overs.TxEnded overs.TxEnded = true
-same_over (overs.Cancel cause) (overs.Cancel other) = same_cause cause other
+same_over (overs.Cancel cause) (overs.Cancel other) = same_cancel_cause cause other
 same_over overs.Failed overs.Failed = true
 same_over overs.BadConn overs.BadConn = true
 same_over overs.EndOfRun overs.EndOfRun = true

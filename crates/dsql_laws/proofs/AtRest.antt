@@ -8,7 +8,7 @@ use Rattle.dsql_history.specs.journal.declared.entry.Owner.{Owner}
 use Rattle.dsql_history.specs.journal.Readers.{is_empty}
 use Rattle.dsql_history.specs.wait.declared.request.Request.{Request}
 use Rattle.dsql_history.specs.pool.declared.conn.Place.{Place}
-use Rattle.dsql_history.specs.pool.declared.conn.Place.TheVariants.{Lent, Opening, Closing}
+use Rattle.dsql_history.specs.pool.declared.conn.Place.TheVariants.{Opening, Closing}
 use Rattle.dsql_history.specs.pool.declared.moves.Move.{Move}
 use Rattle.dsql_history.specs.pool.declared.moves.Move.TheVariants.{OpenStart, Lend, Back, CloseStart}
 use Rattle.dsql_history.specs.pool.declared.request.Asked.{Asked}

@@ -7,7 +7,7 @@ use Rattle.dsql_history.specs.wait.declared.request.Request.{Request}
 use Rattle.dsql_history.specs.wait.Requests.{waits, without_call}
 use Rattle.dsql_history.specs.pool.declared.conn.Conn.{Conn}
 use Rattle.dsql_history.specs.pool.Places.{conn_of}
-use Rattle.dsql_history.specs.pool.Changes.{changed, gone}
+use Rattle.dsql_history.specs.pool.Changes.{conn_changed, gone}
 use Rattle.dsql_history.proofs.pool.Frees.{passing, count-cons, count-changed}
 
 abbrev one_if : Bool → ℕ
@@ -76,20 +76,20 @@ mapped_none q f None h = refl
 mapped_none q f (Some x) h = ap one_if (h x)
 
 -- If no changed connection passes the test, a change doesn't raise the count.
-pub changed_fewer : (q : Conn → Bool) (c : ℕ) (f : Conn → Conn) (conns : List Conn) → ((x : Conn) → q (f x) ≡ false) → count_by q (changed c f conns) ≤ count_by q conns
+pub changed_fewer : (q : Conn → Bool) (c : ℕ) (f : Conn → Conn) (conns : List Conn) → ((x : Conn) → q (f x) ≡ false) → count_by q (conn_changed c f conns) ≤ count_by q conns
 changed_fewer q c f conns h =
     let change = count-changed q c f conns in
     let none = mapped_none q f (conn_of c conns) h in
     omega (arith, change, none)
 
-pub changed_one_more : (q : Conn → Bool) (c : ℕ) (f : Conn → Conn) (conns : List Conn) → count_by q (changed c f conns) ≤ count_by q conns + 1
+pub changed_one_more : (q : Conn → Bool) (c : ℕ) (f : Conn → Conn) (conns : List Conn) → count_by q (conn_changed c f conns) ≤ count_by q conns + 1
 changed_one_more q c f conns =
     let change = count-changed q c f conns in
     let most = passing_one q (option_map f (conn_of c conns)) in
     omega (arith, change, most)
 
 -- If the connection passed the test before, its change doesn't raise the count.
-pub changed_same : (q : Conn → Bool) (c : ℕ) (f : Conn → Conn) (conns : List Conn) → passing q (conn_of c conns) ≡ 1 → count_by q (changed c f conns) ≤ count_by q conns
+pub changed_same : (q : Conn → Bool) (c : ℕ) (f : Conn → Conn) (conns : List Conn) → passing q (conn_of c conns) ≡ 1 → count_by q (conn_changed c f conns) ≤ count_by q conns
 changed_same q c f conns here =
     let change = count-changed q c f conns in
     let most = passing_one q (option_map f (conn_of c conns)) in

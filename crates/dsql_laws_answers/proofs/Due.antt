@@ -9,7 +9,7 @@ use Rattle.dsql_laws_calls.specs.pool.declared.conn.Place.{Place}
 use Rattle.dsql_laws_calls.specs.pool.declared.conn.Place.TheVariants.{Idle, Lent, Closing}
 use Rattle.dsql_laws_calls.specs.pool.declared.moves.Move.{Move}
 use Rattle.dsql_laws_calls.specs.pool.declared.moves.Move.TheVariants.{OpenStart, Lend, Back, CloseStart, Gone, Fell}
-use Rattle.dsql_laws_calls.specs.pool.Changes.{lent, back, closing as closing_conn}
+use Rattle.dsql_laws_calls.specs.pool.Changes.{lent, back, closing}
 use Rattle.dsql_laws_calls.specs.pool.Places.{conn_of, is_idle, is_opening, is_closing}
 use Rattle.dsql_laws_calls.specs.history.Rules.Wishes.{wish_as}
 use Rattle.dsql_laws_calls.proofs.laws.Tests.{other_number, same_number}
@@ -31,7 +31,7 @@ use Rattle.dsql_laws_calls.specs.history.Readers.Unfinished.{is_unfinished}
 use Rattle.dsql_laws_calls.specs.history.Readers.Works.{works, work, scope, is_fetch, borrower}
 use Rattle.dsql_laws_calls.specs.history.Rules.Ending.{ending}
 use Rattle.dsql_laws_calls.specs.history.Rules.Line.{due_inside, due_in, due_for, sends_in}
-use Rattle.dsql_laws_calls.specs.history.Rules.Sent.{line_of, wish, sent_for, closing}
+use Rattle.dsql_laws_calls.specs.history.Rules.Sent.{line_of, wish, sent_for, close_due}
 use Rattle.dsql_laws_calls.specs.history.Legal.{Lawful}
 use Rattle.dsql_laws_calls.specs.Chores.{is_lent_for}
 use Rattle.dsql_laws_calls.proofs.Born.{open_is_old}
@@ -82,9 +82,9 @@ conn_stays H (Back d) c t own l before after =
     (λ same. idle_not (place (Pool (Back d) ∷ H) c) (place (Pool (Back d) ∷ H) d) t own Idle after
     (changed_place d (back (pool H).moment) Idle (pool H).conns (λ x. refl) (λ x. refl) (some_lent (place H d) t own (ap (place H) (sym same) ∙ before))) (ap (place (Pool (Back d) ∷ H)) same) (λ x. cc))
 conn_stays H (CloseStart d why) c t own l before after =
-    changed_off d c closing_conn (pool H).conns (λ x. refl)
+    changed_off d c closing (pool H).conns (λ x. refl)
     (λ same. idle_not (place (Pool (CloseStart d why) ∷ H) c) (place (Pool (CloseStart d why) ∷ H) d) t own Closing after
-    (changed_place d closing_conn Closing (pool H).conns (λ x. refl) (λ x. refl) (some_lent (place H d) t own (ap (place H) (sym same) ∙ before))) (ap (place (Pool (CloseStart d why) ∷ H)) same) (λ x. cc))
+    (changed_place d closing Closing (pool H).conns (λ x. refl) (λ x. refl) (some_lent (place H d) t own (ap (place H) (sym same) ∙ before))) (ap (place (Pool (CloseStart d why) ∷ H)) same) (λ x. cc))
 conn_stays H (Gone d) c t own l before after = let f = move_facts H (Gone d) l.1 in gone_off d c (pool H).conns (elsewhere H d c t own is_closing before refl f.moves)
 conn_stays H (Fell d k) c t own l before after = let f = move_facts H (Fell d k) l.1 in gone_off d c (pool H).conns (elsewhere H d c t own is_opening before refl f.moves)
 
@@ -116,7 +116,7 @@ ending_still H move c t own s =
     let home_k = home_stays H move c t own s in
     ends_alike H K k refl home_k.homes home_k.places
     (record {
-      first = first_same H K k 0 (works H) (λ i hands. subst (λ j. closing K j ≡ closing H j) (omega arith) (closing_alike H K i refl (λ over. line_still H move c t own i wishes.Close s (inside_uses H i k (scoped (work H i) k hands)))));
+      first = first_same H K k 0 (works H) (λ i hands. subst (λ j. close_due K j ≡ close_due H j) (omega arith) (closing_alike H K i refl (λ over. line_still H move c t own i wishes.Close s (inside_uses H i k (scoped (work H i) k hands)))));
       can = refl;
       heard = refl;
     })

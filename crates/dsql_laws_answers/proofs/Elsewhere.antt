@@ -33,7 +33,7 @@ use Rattle.dsql_laws_calls.specs.history.Readers.Unfinished.{is_unfinished}
 use Rattle.dsql_laws_calls.specs.history.Readers.Works.{works, work, asks, hands_out_in, borrower}
 use Rattle.dsql_laws_calls.specs.history.Rules.Ending.{ending}
 use Rattle.dsql_laws_calls.specs.history.Rules.Line.{may_come, sends_from, is_used}
-use Rattle.dsql_laws_calls.specs.history.Rules.Sent.{line_of, closing}
+use Rattle.dsql_laws_calls.specs.history.Rules.Sent.{line_of, close_due}
 use Rattle.dsql_laws_calls.specs.history.Rules.Settled.{is_kept}
 use Rattle.dsql_laws_calls.specs.history.Legal.{Lawful}
 use Rattle.dsql_laws_callers.proofs.Homes.{home_owner}
@@ -133,9 +133,9 @@ tx_off H e t own k h off = by (heard_tx H e k)
 pub ending_off : (H : List Event) (e : Entry) (t : ℕ) (own : Owner) (k : ℕ) → HeardLent H e t own → k ≢ number_of own → e.conn ≢ home H k → ending (Heard e ∷ H) k ≡ ending H k
 ending_off H e t own k h off apart =
     ends_alike H (Heard e ∷ H) k (tx_off H e t own k h off) refl refl
-    (record { first = first_same H (Heard e ∷ H) k 0 (works H) (λ i hands. subst (λ j. closing (Heard e ∷ H) j ≡ closing H j) (omega arith) (closes i hands)); can = refl; heard = heard_other H e (home H k) apart })
+    (record { first = first_same H (Heard e ∷ H) k 0 (works H) (λ i hands. subst (λ j. close_due (Heard e ∷ H) j ≡ close_due H j) (omega arith) (closes i hands)); can = refl; heard = heard_other H e (home H k) apart })
   where
-    closes : (i : ℕ) → hands_out_in k (work H i) ≡ true → closing (Heard e ∷ H) i ≡ closing H i
+    closes : (i : ℕ) → hands_out_in k (work H i) ≡ true → close_due (Heard e ∷ H) i ≡ close_due H i
     closes i hands =
         let its : borrower H i ≡ k = inside_uses H i k (scoped (work H i) k hands) in
         closing_alike H (Heard e ∷ H) i (rows_off H e t own i h (λ same. off (sym its ∙ same)))

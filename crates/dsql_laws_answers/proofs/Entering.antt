@@ -2,7 +2,7 @@
 -- rows, and ends no transaction.
 use Rattle.std.proofs.Common.{◌≡◌, ◌≢◌, ℕ, ◌==◌, Bool, true, false, not, ◌&&◌, ◌||◌, cond, List, ◌∷◌, Option, Some, None, is_some, is_none, refl, sym, ap, subst, ◌∙◌, arith}
 use Rattle.dsql_laws_calls.specs.course.declared.course.Wish.TheVariants as wishes
-use Rattle.dsql_laws_calls.specs.numbered.Numbered.{thing_of, changed as changed_in, changed}
+use Rattle.dsql_laws_calls.specs.numbered.Numbered.{thing_of, changed}
 use Rattle.dsql_laws_calls.specs.rows.declared.end.RowsEnd.TheVariants as ends
 use Rattle.dsql_laws_calls.specs.rows.declared.rows.Rows.{Rows}
 use Rattle.dsql_laws_calls.specs.rows.OpenRows.{ended_by, rows_of}
@@ -191,11 +191,11 @@ told_sends_nothing H client n op l some settled due =
     by (ops.Commit tx) s new x y = ends_silent H n (tx_maker (works H) tx) (Entered client n (ops.Commit tx) ∷ H) (tx_ends_none H client n (ops.Commit tx) tx s s.told (λ u. unfinished_tx u)) y
       where
         unfinished_tx : is_unfinished H (tx_maker (works H) tx) ≡ true → tx_by (Entered client n (ops.Commit tx) ∷ H) (tx_maker (works H) tx) ≡ tx_by H (tx_maker (works H) tx)
-        unfinished_tx u = ap (λ b. thing_of (tx_maker (works H) tx) (cond b (transactions H) (changed_in (ended_tx tx_ends.Commit) (tx_maker (works H) tx) (transactions H)))) u
+        unfinished_tx u = ap (λ b. thing_of (tx_maker (works H) tx) (cond b (transactions H) (changed (ended_tx tx_ends.Commit) (tx_maker (works H) tx) (transactions H)))) u
     by (ops.Rollback tx) s new x y = ends_silent H n (tx_maker (works H) tx) (Entered client n (ops.Rollback tx) ∷ H) (tx_ends_none H client n (ops.Rollback tx) tx s s.told (λ u. unfinished_tx u)) y
       where
         unfinished_tx : is_unfinished H (tx_maker (works H) tx) ≡ true → tx_by (Entered client n (ops.Rollback tx) ∷ H) (tx_maker (works H) tx) ≡ tx_by H (tx_maker (works H) tx)
-        unfinished_tx u = ap (λ b. thing_of (tx_maker (works H) tx) (cond b (transactions H) (changed_in (ended_tx tx_ends.Rollback) (tx_maker (works H) tx) (transactions H)))) u
+        unfinished_tx u = ap (λ b. thing_of (tx_maker (works H) tx) (cond b (transactions H) (changed (ended_tx tx_ends.Rollback) (tx_maker (works H) tx) (transactions H)))) u
     by it s new x y = absurd cc
 
     started : (it : Op) → Told H client n it → work (Entered client n it ∷ H) n ≡ work_of (works H) it → (b : Bool) → is_some (cond b (due_in (Entered client n it ∷ H) n (work (Entered client n it ∷ H) n)) None) ≡ true → ⊥

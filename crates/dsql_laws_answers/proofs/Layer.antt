@@ -36,7 +36,7 @@ use Rattle.dsql_laws_calls.specs.history.Rules.Ending.{ending}
 use Rattle.dsql_laws_calls.specs.history.Rules.Line.{due_for, is_used}
 use Rattle.dsql_laws_calls.specs.history.Rules.Moves.{is_house_entry, hears_in}
 use Rattle.dsql_laws_calls.specs.history.Rules.Sent.{line_of}
-use Rattle.dsql_laws_calls.specs.history.Rules.Settled.{is_kept, uses_what_is_lent, goes_on_but}
+use Rattle.dsql_laws_calls.specs.history.Rules.Settled.{is_kept, uses_what_is_lent, calls_stand_but}
 use Rattle.dsql_laws_calls.specs.history.Rules.Stands.{is_own_step, stand}
 use Rattle.dsql_laws_calls.specs.history.Legal.{Lawful}
 use Rattle.dsql_laws_calls.proofs.laws.Numbered.{some_calls, unfinished_from_one}
@@ -58,7 +58,7 @@ use Rattle.dsql_laws_answers.proofs.Beside.{Beside, late_same, sent_same, tried_
 -- call that stood somewhere still does.
 pub record Carried (H K : List Event) : Type 0 where
   pub used : uses_what_is_lent H ≡ true → uses_what_is_lent K ≡ true
-  pub somewhere : (k : ℕ) → goes_on_but k H ≡ true → goes_on_but k K ≡ true
+  pub somewhere : (k : ℕ) → calls_stand_but k H ≡ true → calls_stand_but k K ≡ true
 
 -- An answer to the layer, on a connection that isn't lent.
 pub record OfLayer (H : List Event) (e : Entry) : Type 0 where

@@ -35,7 +35,7 @@ use Rattle.dsql_laws_calls.specs.history.Readers.Course.{caps}
 use Rattle.dsql_laws_calls.specs.history.Readers.HandedOut.{rows_by, is_late, are_live}
 use Rattle.dsql_laws_calls.specs.history.Readers.Unfinished.{is_unfinished, unfinished}
 use Rattle.dsql_laws_calls.specs.history.Rules.Line.{due_in, due_for}
-use Rattle.dsql_laws_calls.specs.history.Rules.Settled.{goes_on, goes_on_but}
+use Rattle.dsql_laws_calls.specs.history.Rules.Settled.{calls_stand, calls_stand_but}
 use Rattle.dsql_laws_calls.specs.history.Rules.Stands.{is_own_step, is_settled_for, has_to_reply, stand}
 use Rattle.dsql_laws_calls.specs.history.Legal.{Lawful, Calm}
 use Rattle.dsql_laws_calls.proofs.laws.Numbered.{unfinished_from_one}
@@ -335,12 +335,12 @@ stands_heard H e t own m b calm fetching h =
         by None is = either_way (undecided_goes H e t own m b is due fetching)
 
 -- Each call except that of the answer stands somewhere.
-pub stands_still : (H : List Event) (e : Entry) (t : ℕ) (own : Owner) (m : ℕ) → HeardLent H e t own → Calm H → goes_on H ≡ true → is_unfinished H m ≡ true → m ≢ e.call_no → is_some (stand (Heard e ∷ H) m) ≡ true
+pub stands_still : (H : List Event) (e : Entry) (t : ℕ) (own : Owner) (m : ℕ) → HeardLent H e t own → Calm H → calls_stand H ≡ true → is_unfinished H m ≡ true → m ≢ e.call_no → is_some (stand (Heard e ∷ H) m) ≡ true
 stands_still H e t own m hl calm h u apart =
     let l = hl.lawful in
     let number = unfinished_from_one H m l.0 u in
     let fetching : FetchReplies (Heard e ∷ H) m = λ k is inside silent. fetch_replies (Heard e ∷ H) m k l u is silent in
     stands_heard H e t own m (record { heard = hl; beside = record { other = λ same. apart (sym same); number = number; unfinished = u } }) calm fetching (stands_there H m number u h)
 
-pub goes_on_heard : (H : List Event) (e : Entry) (t : ℕ) (own : Owner) → HeardLent H e t own → Calm H → goes_on H ≡ true → goes_on_but e.call_no (Heard e ∷ H) ≡ true
+pub goes_on_heard : (H : List Event) (e : Entry) (t : ℕ) (own : Owner) → HeardLent H e t own → Calm H → calls_stand H ≡ true → calls_stand_but e.call_no (Heard e ∷ H) ≡ true
 goes_on_heard H e t own hl calm h = each_stands 0 e.call_no (unfinished H) H (Heard e ∷ H) (λ m u apart was. stands_still H e t own m hl calm h u apart) h

@@ -89,8 +89,8 @@ record OpenAt (asked : Asked) (made : List Exchange) : Type 0 where
   open_still : rows_are_over made ≡ false
 
 open_at : (can : Caps) (asked : Asked) (s : Step) (made : List Exchange) → asked.aim ≡ aims.HandOut → is_holding s ≡ true → MadeAt can asked s made → OpenAt asked made
-open_at can asked (HasRows own rows) made aim h m = record { cursor = rows; handed_it = ap (λ a. handed a made) aim ∙ m.cursor; open_still = m.is_over }
-open_at can asked (HasRead own rows false) made aim h m = record { cursor = rows; handed_it = ap (λ a. handed a made) aim ∙ m.cursor; open_still = m.is_over }
+open_at can asked (HasRows own rows) made aim h m = record { cursor = rows; handed_it = ap (λ a. handed a made) aim ∙ m.cursor; open_still = m.are_over }
+open_at can asked (HasRead own rows false) made aim h m = record { cursor = rows; handed_it = ap (λ a. handed a made) aim ∙ m.cursor; open_still = m.are_over }
 open_at can asked s made aim h m = absurd cc
 
 -- A fetch that leaves rows live has read a row, so the line stays open.

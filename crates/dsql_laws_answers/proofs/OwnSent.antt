@@ -21,7 +21,7 @@ use Rattle.dsql_laws_calls.specs.history.Readers.Transactions.{is_begun, tx_ende
 use Rattle.dsql_laws_calls.specs.history.Readers.Works.{work, scope, is_fetch, asks, hands_out_in, borrower}
 use Rattle.dsql_laws_calls.specs.history.Rules.Ending.{ending}
 use Rattle.dsql_laws_calls.specs.history.Rules.Line.{is_due, due_in, due_for, tidying, due_from, is_due_at, is_used, parts, may_come}
-use Rattle.dsql_laws_calls.specs.history.Rules.Sent.{line_of, closes, wish, sent_for, closing}
+use Rattle.dsql_laws_calls.specs.history.Rules.Sent.{line_of, closes, wish, sent_for, close_due}
 use Rattle.dsql_laws_calls.specs.history.Legal.{Lawful}
 use Rattle.dsql_laws_calls.proofs.Begun.{begun_begins, over_begun}
 use Rattle.dsql_laws_calls.proofs.Beginnings.{begin_owner}
@@ -104,7 +104,7 @@ sent_now H e own o may now = whose (e.call_no == 0) refl (subst (λ x. is_due (d
     closed true false over x = absurd cc
     closed false b over x = absurd cc
 
-    layer : (b : Bool) → is_begun H n ≡ b → is_due (cond b (cond (tx_ender H n == 0) (ending H n) None) (cond (ender H n == 0) (closing H n) None)) e.call ≡ true → OwnSent H e own
+    layer : (b : Bool) → is_begun H n ≡ b → is_due (cond b (cond (tx_ender H n == 0) (ending H n) None) (cond (ender H n == 0) (close_due H n) None)) e.call ≡ true → OwnSent H e own
     layer true begun x = unbegun H e own n o refl begun
     layer false begun x = closed (ender H n == 0) (are_over H n) refl x
 

@@ -17,7 +17,7 @@ use Rattle.dsql_laws_calls.specs.history.declared.work.Work.{Work}
 use Rattle.dsql_laws_calls.specs.history.declared.work.Work.TheVariants.{Execute, ReadOne, HandOut, Begin, End, Ping, Fetch, Close, Look}
 use Rattle.dsql_laws_calls.specs.history.Readers.Calls.{site, decided, has_begun_to_send}
 use Rattle.dsql_laws_calls.specs.history.Readers.Pool.{home}
-use Rattle.dsql_laws_calls.specs.history.Readers.Transactions.{tx_by, goes_on as tx_goes_on, tx_ender}
+use Rattle.dsql_laws_calls.specs.history.Readers.Transactions.{tx_by, goes_on, tx_ender}
 use Rattle.dsql_laws_calls.specs.history.Readers.Unfinished.{is_unfinished}
 use Rattle.dsql_laws_calls.specs.history.Readers.Works.{work, scope, is_fetch, borrower}
 use Rattle.dsql_laws_calls.specs.history.Rules.Ending.{ending}
@@ -43,8 +43,8 @@ pub record BesideLent (H : List Event) (e : Entry) (t : ℕ) (own : Owner) (m : 
 inner_off : (H : List Event) (e : Entry) (t : ℕ) (own : Owner) (m k : ℕ) → BesideLent H e t own m → is_some (decided H m) ≡ true → line_of (Heard e ∷ H) m wishes.Nothing ≡ line_of H m wishes.Nothing
     → is_some (due_inside H m (Tx k)) ≡ true → is_some (due_inside (Heard e ∷ H) m (Tx k)) ≡ true
 inner_off H e t own m k b settled line h =
-    ap (λ x. is_some (cond (x || (tx_goes_on K k && is_none (decided K m))) (line_of K m wishes.Nothing) None)) (sent_same H e m (site H m) b.beside.other)
-    ∙ (ap (λ d. is_some (cond (has_begun_to_send H m || (tx_goes_on K k && is_none (decided K m))) d None)) line ∙ by (has_begun_to_send H m) h)
+    ap (λ x. is_some (cond (x || (goes_on K k && is_none (decided K m))) (line_of K m wishes.Nothing) None)) (sent_same H e m (site H m) b.beside.other)
+    ∙ (ap (λ d. is_some (cond (has_begun_to_send H m || (goes_on K k && is_none (decided K m))) d None)) line ∙ by (has_begun_to_send H m) h)
   where
     K : List Event
     K = Heard e ∷ H
@@ -54,9 +54,9 @@ inner_off H e t own m k b settled line h =
     unsettled (Some r) true x = refl
     unsettled (Some r) false x = refl
 
-    by : (x : Bool) → is_some (cond (x || (tx_goes_on H k && is_none (decided H m))) (line_of H m wishes.Nothing) None) ≡ true → is_some (cond (x || (tx_goes_on K k && is_none (decided K m))) (line_of H m wishes.Nothing) None) ≡ true
+    by : (x : Bool) → is_some (cond (x || (goes_on H k && is_none (decided H m))) (line_of H m wishes.Nothing) None) ≡ true → is_some (cond (x || (goes_on K k && is_none (decided K m))) (line_of H m wishes.Nothing) None) ≡ true
     by true y = y
-    by false y = clash (sym (sym (ap (λ z. is_some (cond z (line_of H m wishes.Nothing) None)) (unsettled (decided H m) (tx_goes_on H k) settled)) ∙ y))
+    by false y = clash (sym (sym (ap (λ z. is_some (cond z (line_of H m wishes.Nothing) None)) (unsettled (decided H m) (goes_on H k) settled)) ∙ y))
 
 -- A call that has settled its reply wants rows to be closed, and nothing else of them.
 rows_off_closed : (H : List Event) (e : Entry) (t : ℕ) (own : Owner) (m k : ℕ) → BesideLent H e t own m → is_some (decided H m) ≡ true → e.conn ≢ site H m → (hands_out (work H k) ≡ true → borrower H m ≡ borrower H k)

@@ -14,7 +14,7 @@ use Rattle.dsql_laws_calls.specs.history.declared.reply.Reply.{Reply}
 use Rattle.dsql_laws_calls.specs.history.Readers.Calls.{site, decided, told_by_others, rests}
 use Rattle.dsql_laws_calls.specs.history.Readers.Unfinished.{unfinished, is_unfinished}
 use Rattle.dsql_laws_calls.specs.history.Rules.Line.{due_for}
-use Rattle.dsql_laws_calls.specs.history.Rules.Settled.{goes_on}
+use Rattle.dsql_laws_calls.specs.history.Rules.Settled.{calls_stand}
 use Rattle.dsql_laws_calls.specs.history.Rules.Stands.{is_own_step, is_settled_for, has_to_reply, stand}
 use Rattle.dsql_laws_calls.specs.history.Legal.{Lawful}
 use Rattle.dsql_laws_calls.proofs.AtEnd.{all_has}
@@ -68,5 +68,5 @@ settling_sends H m l s h =
     (sym (somewhere (waits m (pool H).waiting) (smallest (is_for m) (pool H)) (is_some (due_for H m)) (has_to_reply H m) (asks_again (tries H m)) (site H m)) ∙ h)
 
 -- Each unfinished call stands somewhere if all calls go on.
-pub stands_there : (H : List Event) (m : ℕ) → m ≢ 0 → is_unfinished H m ≡ true → goes_on H ≡ true → is_some (stand H m) ≡ true
+pub stands_there : (H : List Event) (m : ℕ) → m ≢ 0 → is_unfinished H m ≡ true → calls_stand H ≡ true → is_some (stand H m) ≡ true
 stands_there H m number u h = second (m == 0) (is_some (stand H m)) (other_number m 0 number) (all_has (λ k. (k == 0) || is_some (stand H k)) (unfinished H) m h u)

@@ -9,7 +9,7 @@ ghost use Rattle.dsql_laws_calls.specs.history.declared.event.Event.{Event};
 ghost use Rattle.dsql_laws_calls.specs.history.declared.event.Event.TheVariants.{Heard};
 ghost use Rattle.dsql_laws_calls.specs.history.Readers.Pool.{place};
 ghost use Rattle.dsql_laws_calls.specs.history.Readers.Unfinished.{is_unfinished};
-ghost use Rattle.dsql_laws_calls.specs.history.Rules.Settled.{goes_on, goes_on_but, is_kept, uses_what_is_lent};
+ghost use Rattle.dsql_laws_calls.specs.history.Rules.Settled.{calls_stand, calls_stand_but, is_kept, uses_what_is_lent};
 ghost use Rattle.dsql_laws_calls.specs.history.Rules.Stands.{stand};
 ghost use Rattle.dsql_laws_calls.specs.history.Legal.{Calm, Lawful};
 
@@ -19,12 +19,12 @@ ghost use Rattle.dsql_laws_calls.specs.history.Legal.{Calm, Lawful};
 pub fn an_answer_touches_no_other_call()
     ensures each { (history : List Event) (e : Entry) (t m : ℕ) (owner : Owner) → Lawful (Heard e ∷ history)
         → Calm history
-        → place history e.conn ≡ Some (Lent t owner) → goes_on history ≡ true → is_unfinished history m ≡ true
+        → place history e.conn ≡ Some (Lent t owner) → calls_stand history ≡ true → is_unfinished history m ≡ true
         → m ≢ e.call_no → is_some (stand (Heard e ∷ history) m) ≡ true }
     ensures others { (history : List Event) (e : Entry) (t : ℕ) (owner : Owner) → Lawful (Heard e ∷ history)
         → Calm history
-        → place history e.conn ≡ Some (Lent t owner) → goes_on history ≡ true
-        → goes_on_but e.call_no (Heard e ∷ history) ≡ true }
+        → place history e.conn ≡ Some (Lent t owner) → calls_stand history ≡ true
+        → calls_stand_but e.call_no (Heard e ∷ history) ≡ true }
     ensures used { (history : List Event) (e : Entry) (t : ℕ) (owner : Owner) → Lawful (Heard e ∷ history)
         → place history e.conn ≡ Some (Lent t owner) → uses_what_is_lent history ≡ true
         → is_kept (Heard e ∷ history) (number_of owner) ≡ true → uses_what_is_lent (Heard e ∷ history) ≡ true }

@@ -7,7 +7,7 @@ ghost use Rattle.dsql_laws_calls.specs.history.declared.event.Event.{Event};
 ghost use Rattle.dsql_laws_calls.specs.history.declared.event.Event.TheVariants.{Heard};
 ghost use Rattle.dsql_laws_calls.specs.history.Readers.Owed.{owed};
 ghost use Rattle.dsql_laws_calls.specs.history.Readers.Pool.{place};
-ghost use Rattle.dsql_laws_calls.specs.history.Rules.Settled.{goes_on_but, uses_what_is_lent};
+ghost use Rattle.dsql_laws_calls.specs.history.Rules.Settled.{calls_stand_but, uses_what_is_lent};
 ghost use Rattle.dsql_laws_calls.specs.history.Legal.{Lawful};
 ghost use Rattle.dsql_laws_calls.specs.laws.OwedMade.{with_moves};
 
@@ -20,6 +20,6 @@ pub fn an_answer_of_the_layer_serves_or_tells()
         → uses_what_is_lent (with_moves (owed (Heard e ∷ history)) (Heard e ∷ history)) ≡ true }
     ensures somewhere { (history : List Event) (e : Entry) (k : ℕ) → Lawful (Heard e ∷ history)
         → is_lent (place history e.conn)
-        ≡ false → goes_on_but k history ≡ true
-        → goes_on_but k (with_moves (owed (Heard e ∷ history)) (Heard e ∷ history)) ≡ true }
+        ≡ false → calls_stand_but k history ≡ true
+        → calls_stand_but k (with_moves (owed (Heard e ∷ history)) (Heard e ∷ history)) ≡ true }
 {}

@@ -8,7 +8,7 @@ use Rattle.dsql_laws_calls.specs.pool.declared.conn.Place.TheVariants.{Opening}
 use Rattle.dsql_laws_calls.specs.pool.declared.moves.Move.{Move}
 use Rattle.dsql_laws_calls.specs.pool.declared.moves.Move.TheVariants.{OpenStart, Lend, Back, CloseStart, Gone, Fell}
 use Rattle.dsql_laws_calls.specs.pool.Places.{conn_of, is_opening}
-use Rattle.dsql_laws_calls.specs.pool.Changes.{lent, back, closing, changed, opening, unwanted}
+use Rattle.dsql_laws_calls.specs.pool.Changes.{lent, back, closing, conn_changed, opening, unwanted}
 use Rattle.dsql_laws_calls.specs.pool.Pooled.{Pooled}
 use Rattle.dsql_laws_calls.proofs.pool.Found.{KeepsNumber}
 use Rattle.dsql_laws_calls.proofs.pool.Rows.{left_of, right_of, both}
@@ -50,14 +50,14 @@ rising_map f n m (x ∷ xs) keeps h =
     subst (λ k. (nat_lt n k && nat_le k m) && are_rising k m (map f xs) ≡ true) (sym (keeps x))
     (both (nat_lt n x.number && nat_le x.number m) (are_rising x.number m (map f xs)) here (rising_map f x.number m xs keeps rest))
 
-rising_changed : (c : ℕ) (f : Conn → Conn) (n m : ℕ) (xs : List Conn) → KeepsNumber f → are_rising n m xs ≡ true → are_rising n m (changed c f xs) ≡ true
+rising_changed : (c : ℕ) (f : Conn → Conn) (n m : ℕ) (xs : List Conn) → KeepsNumber f → are_rising n m xs ≡ true → are_rising n m (conn_changed c f xs) ≡ true
 rising_changed c f n m [] keeps h = refl
 rising_changed c f n m (x ∷ xs) keeps h =
     let here = left_of (nat_lt n x.number && nat_le x.number m) (are_rising x.number m xs) h in
     let rest = right_of (nat_lt n x.number && nat_le x.number m) (are_rising x.number m xs) h in
-    elim (x.number == c) as (λ b. are_rising n m (cond b (f x ∷ xs) (x ∷ changed c f xs)) ≡ true) [
+    elim (x.number == c) as (λ b. are_rising n m (cond b (f x ∷ xs) (x ∷ conn_changed c f xs)) ≡ true) [
       | true ↦ subst (λ k. (nat_lt n k && nat_le k m) && are_rising k m xs ≡ true) (sym (keeps x)) h
-      | false ↦ both (nat_lt n x.number && nat_le x.number m) (are_rising x.number m (changed c f xs)) here (rising_changed c f x.number m xs keeps rest)
+      | false ↦ both (nat_lt n x.number && nat_le x.number m) (are_rising x.number m (conn_changed c f xs)) here (rising_changed c f x.number m xs keeps rest)
     ]
 
 below_of : (n m k : ℕ) → (nat_lt n k && nat_le k m) ≡ true → n ≤ k

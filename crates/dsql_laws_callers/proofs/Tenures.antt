@@ -6,7 +6,7 @@ use Rattle.dsql_laws_calls.specs.pool.declared.conn.Conn.{Conn}
 use Rattle.dsql_laws_calls.specs.pool.declared.conn.Place.{Place}
 use Rattle.dsql_laws_calls.specs.pool.declared.conn.Place.TheVariants.{Opening}
 use Rattle.dsql_laws_calls.specs.pool.declared.moves.Move.TheVariants.{OpenStart, Lend, Back, CloseStart, Gone, Fell}
-use Rattle.dsql_laws_calls.specs.pool.Changes.{lent, back, closing, changed, gone, unwanted}
+use Rattle.dsql_laws_calls.specs.pool.Changes.{lent, back, closing, conn_changed, gone, unwanted}
 use Rattle.dsql_laws_calls.specs.pool.Places.{conn_of, is_opening}
 use Rattle.dsql_laws_calls.specs.pool.Pooled.{Pooled}
 use Rattle.dsql_laws_calls.specs.pool.Moved.{begun}
@@ -48,11 +48,11 @@ comes_mapped : (f : Conn → Conn) (o : Option Conn) (x : Conn) → ((y : Conn) 
 comes_mapped f None x more is = absurd cc
 comes_mapped f (Some y) x more is = let same : f y ≡ x = cc in (y, refl, subst (λ (z : Conn). y.lends ≤ z.lends) same (more y))
 
-comes_changed : (d c : ℕ) (f : Conn → Conn) (conns : List Conn) (x : Conn) → KeepsNumber f → ((y : Conn) → y.lends ≤ (f y).lends) → conn_of c (changed d f conns) ≡ Some x → Comes (conn_of c conns) x
+comes_changed : (d c : ℕ) (f : Conn → Conn) (conns : List Conn) (x : Conn) → KeepsNumber f → ((y : Conn) → y.lends ≤ (f y).lends) → conn_of c (conn_changed d f conns) ≡ Some x → Comes (conn_of c conns) x
 comes_changed d c f conns x keeps more is = by (same_or_not c d)
   where
     by : (c ≡ d) ⊎ (c ≢ d) → Comes (conn_of c conns) x
-    by (inl same) = comes_mapped f (conn_of c conns) x more (sym (ap (λ e. conn_of c (changed e f conns)) (sym same) ∙ found_changed c f keeps conns) ∙ is)
+    by (inl same) = comes_mapped f (conn_of c conns) x more (sym (ap (λ e. conn_of c (conn_changed e f conns)) (sym same) ∙ found_changed c f keeps conns) ∙ is)
     by (inr apart) = (x, sym (changed_off d c f conns keeps apart) ∙ is, omega arith)
 
 comes_gone : (d c : ℕ) (conns : List Conn) (x : Conn) → conn_of c (gone d conns) ≡ Some x → Comes (conn_of c conns) x

@@ -18,7 +18,7 @@ use Rattle.dsql_laws_calls.specs.history.Readers.Transactions.{is_begun, tx_end,
 use Rattle.dsql_laws_calls.specs.history.Readers.Works.{work, asks}
 use Rattle.dsql_laws_calls.specs.history.Rules.Ending.{ending, ending_with}
 use Rattle.dsql_laws_calls.specs.history.Rules.Line.{tidying, due_for, is_due, is_due_at, parts, may_come}
-use Rattle.dsql_laws_calls.specs.history.Rules.Sent.{line_of, closing}
+use Rattle.dsql_laws_calls.specs.history.Rules.Sent.{line_of, close_due}
 use Rattle.dsql_laws_calls.specs.history.Legal.{Lawful}
 use Rattle.dsql_laws_calls.proofs.Owners.{lent_asks}
 use Rattle.dsql_laws_callers.proofs.Ended.{ended_still}
@@ -33,7 +33,7 @@ ending_over H k q h = by (tx_end H k) h
     by None d = absurd (not_due q d)
     by (Some end) d = refl
 
-closing_over : (H : List Event) (n : ℕ) (q : DriverCall) → is_due (closing H n) q ≡ true → are_over H n ≡ true
+closing_over : (H : List Event) (n : ℕ) (q : DriverCall) → is_due (close_due H n) q ≡ true → are_over H n ≡ true
 closing_over H n q h = by (are_over H n) h
   where
     by : (b : Bool) → is_due (cond b (line_of H n wishes.Close) None) q ≡ true → b ≡ true
@@ -60,9 +60,9 @@ tidied_ended H n q l own h = by (is_begun H n) h
     of_rows (inl ended) = ended
     of_rows (inr inside) = absurd (asks_outside (work H n) own inside)
 
-    by : (b : Bool) → is_due (cond b (cond (tx_ender H n == 0) (ending H n) None) (cond (ender H n == 0) (closing H n) None)) q ≡ true → has_ended H ≡ true
+    by : (b : Bool) → is_due (cond b (cond (tx_ender H n == 0) (ending H n) None) (cond (ender H n == 0) (close_due H n) None)) q ≡ true → has_ended H ≡ true
     by true d = let f = if_none (tx_ender H n) (ending H n) q d in transacted.over_unended H n l (ending_over H n q f.1) f.0
-    by false d = let f = if_none (ender H n) (closing H n) q d in of_rows (rows.over_unended H n l (closing_over H n q f.1) f.0)
+    by false d = let f = if_none (ender H n) (close_due H n) q d in of_rows (rows.over_unended H n l (closing_over H n q f.1) f.0)
 
 due_ended : (H : List Event) (e : Entry) → Lawful H → e.call_no ≡ 0 → is_due_at H (place H e.conn) e ≡ true → has_ended H ≡ true
 due_ended H e l none h =

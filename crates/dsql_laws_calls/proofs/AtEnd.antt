@@ -22,7 +22,7 @@ use Rattle.dsql_laws.specs.history.declared.work.Work.TheVariants.{Look}
 use Rattle.dsql_laws.specs.history.Readers.Works.{works, work}
 use Rattle.dsql_laws.specs.history.Rules.Line.{due_for}
 use Rattle.dsql_laws.specs.history.declared.event.Event.{Event}
-use Rattle.dsql_laws.specs.history.declared.event.Event.TheVariants.{Entered, Heard, Pool, Waits, Ticked, SetLimit, Replied, Ended}
+use Rattle.dsql_laws.specs.history.declared.event.Event.TheVariants.{Entered, Heard, Pool, Ticked, SetLimit, Replied, Ended}
 use Rattle.dsql_laws.specs.history.declared.event.Op.TheVariants.{DbClose}
 use Rattle.dsql_laws.specs.history.Readers.Course.{has_ended}
 use Rattle.dsql_laws.specs.history.Readers.Unfinished.{unfinished, is_unfinished}

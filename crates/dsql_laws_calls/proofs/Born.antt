@@ -6,7 +6,7 @@ use Rattle.dsql_laws.specs.journal.declared.entry.Entry.{Entry}
 use Rattle.dsql_laws.specs.pool.declared.conn.Conn.{Conn}
 use Rattle.dsql_laws.specs.pool.declared.conn.Place.{Place}
 use Rattle.dsql_laws.specs.pool.declared.moves.Move.TheVariants.{OpenStart, Lend, Back, CloseStart, Gone, Fell}
-use Rattle.dsql_laws.specs.pool.Changes.{lent, back, closing, changed, gone, unwanted}
+use Rattle.dsql_laws.specs.pool.Changes.{lent, back, closing, conn_changed, gone, unwanted}
 use Rattle.dsql_laws.specs.pool.Places.{conn_of}
 use Rattle.dsql_laws.specs.pool.Pooled.{Pooled, next_number}
 use Rattle.dsql_laws.specs.pool.Moved.{begun, shut}
@@ -28,11 +28,11 @@ pub record Born (H : List Event) : Type 0 where
   pub none : (c : ℕ) → (pool H).opened < c → conn_of c (pool H).conns ≡ None
   pub silent : (c : ℕ) → (pool H).opened < c → journal H c ≡ []
 
-none_changed : (c d : ℕ) (f : Conn → Conn) (conns : List Conn) → KeepsNumber f → conn_of d conns ≡ None → conn_of d (changed c f conns) ≡ None
+none_changed : (c d : ℕ) (f : Conn → Conn) (conns : List Conn) → KeepsNumber f → conn_of d conns ≡ None → conn_of d (conn_changed c f conns) ≡ None
 none_changed c d f conns keeps none = by (same_or_not d c)
   where
-    by : (d ≡ c) ⊎ (d ≢ c) → conn_of d (changed c f conns) ≡ None
-    by (inl same) = ap (λ e. conn_of d (changed e f conns)) (sym same) ∙ found_changed d f keeps conns ∙ ap (option_map f) none
+    by : (d ≡ c) ⊎ (d ≢ c) → conn_of d (conn_changed c f conns) ≡ None
+    by (inl same) = ap (λ e. conn_of d (conn_changed e f conns)) (sym same) ∙ found_changed d f keeps conns ∙ ap (option_map f) none
     by (inr apart) = changed_off c d f conns keeps apart ∙ none
 
 none_gone : (c d : ℕ) (conns : List Conn) → conn_of d conns ≡ None → conn_of d (gone c conns) ≡ None

@@ -18,8 +18,7 @@ use Rattle.dsql_laws.specs.pool.declared.conn.Place.TheVariants.{Lent}
 use Rattle.dsql_laws.specs.works.declared.work.Aim.{Aim}
 use Rattle.dsql_laws.specs.works.declared.work.Aim.TheVariants as aims
 use Rattle.dsql_laws.specs.works.Exchanges.{exchanges}
-use Rattle.dsql_laws.specs.works.Line as plain
-use Rattle.dsql_laws.specs.works.Line.{Asked, body_with, body_after, line_after, sent_as, sent_over}
+use Rattle.dsql_laws.specs.works.Line.{Asked, body_with, body_after, line_after, sent_as, sent_over, is_due_in_line}
 use Rattle.dsql_laws_work.proofs.CallLines.{Step, WasSkipped, WasPrepared, HasRows, HasRead, WasRun, WasDone, WasTested, WasDropped, IsOther, step}
 use Rattle.dsql_laws_work.proofs.MadeLines.{MadeRows, MadeAt, is_ended, ended_by, asking, body_before}
 use Rattle.dsql_laws.specs.history.declared.event.Event.{Event}
@@ -64,7 +63,7 @@ line_of_call H c t own w l is call =
     by v h k = absurd cc
 
 -- Both tests of what is due agree on a plain driver call.
-pub plain_due : (d : Option DriverCall) (q : DriverCall) → is_plain d ≡ true → is_due d q ≡ true → plain.is_due d q ≡ true
+pub plain_due : (d : Option DriverCall) (q : DriverCall) → is_plain d ≡ true → is_due d q ≡ true → is_due_in_line d q ≡ true
 plain_due (Some (Begin level read_only)) q h k = absurd cc
 plain_due (Some Commit) q h k = absurd cc
 plain_due (Some Rollback) q h k = absurd cc
@@ -85,7 +84,7 @@ rows_close can text params aims.HandOut own rows over following made m h =
     ∙ either (rows_are_over made)
   where
     closed : is_some (sent_as can (asking text params aims.HandOut) (closing_next can (length params) made)) ≡ true
-    closed = ap (λ d. is_some (sent_as can (asking text params aims.HandOut) d)) m.closing
+    closed = ap (λ d. is_some (sent_as can (asking text params aims.HandOut) d)) m.next_close
 
     either : (b : Bool) → is_some (sent_over can (asking text params aims.HandOut) (rows_next_if b wishes.Close (closing_next can (length params) made) rows)) ≡ true
     either true = closed

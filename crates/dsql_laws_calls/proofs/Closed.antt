@@ -16,7 +16,7 @@ use Rattle.dsql_laws.specs.pool.declared.request.Asked.{Asked}
 use Rattle.dsql_laws.specs.pool.declared.request.Asked.TheVariants as asked
 use Rattle.dsql_laws.specs.pool.declared.request.AskFault.{AskFault}
 use Rattle.dsql_laws.specs.pool.Calls.{moves_asked}
-use Rattle.dsql_laws.specs.pool.Changes.{opening, lent, back, closing, changed, unwanted}
+use Rattle.dsql_laws.specs.pool.Changes.{opening, lent, back, closing, conn_changed, unwanted}
 use Rattle.dsql_laws.specs.pool.Decisions as pools
 use Rattle.dsql_laws.specs.pool.Places.{conn_of, is_for, is_idle, is_opening}
 use Rattle.dsql_laws.specs.pool.Pooled.{Pooled, next_number}
@@ -65,13 +65,13 @@ unwanted_free x = at x.place refl
 shut_free : (conns : List Conn) → are_free (map unwanted conns) ≡ true
 shut_free conns = list_all-map (λ (x : Conn). is_free x.place) unwanted conns ∙ all_so (λ y. is_free (unwanted y).place) conns unwanted_free
 
-changed_free : (c : ℕ) (f : Conn → Conn) (conns : List Conn) → ((x : Conn) → is_free (f x).place ≡ true) → are_free conns ≡ true → are_free (changed c f conns) ≡ true
+changed_free : (c : ℕ) (f : Conn → Conn) (conns : List Conn) → ((x : Conn) → is_free (f x).place ≡ true) → are_free conns ≡ true → are_free (conn_changed c f conns) ≡ true
 changed_free c f [] so h = refl
 changed_free c f (x ∷ xs) so h =
     let a = both (is_free x.place) (are_free xs) h in
-    elim (x.number == c) as (λ b. are_free (cond b (f x ∷ xs) (x ∷ changed c f xs)) ≡ true) [
+    elim (x.number == c) as (λ b. are_free (cond b (f x ∷ xs) (x ∷ conn_changed c f xs)) ≡ true) [
       | true ↦ together (is_free (f x).place) (are_free xs) (so x) a.1
-      | false ↦ together (is_free x.place) (are_free (changed c f xs)) a.0 (changed_free c f xs so a.1)
+      | false ↦ together (is_free x.place) (are_free (conn_changed c f xs)) a.0 (changed_free c f xs so a.1)
     ]
 
 more_free : (conns : List Conn) (x : Conn) → are_free conns ≡ true → is_free x.place ≡ true → are_free (conns ++ x ∷ []) ≡ true

@@ -27,7 +27,7 @@ use Rattle.dsql_laws.specs.history.Readers.Lines.{line_among, line_in, has_sent}
 use Rattle.dsql_laws.specs.history.Readers.Pool.{place, home}
 use Rattle.dsql_laws.specs.history.Readers.Transactions.{is_begun, is_over, goes_on, tx_ender}
 use Rattle.dsql_laws.specs.history.Readers.Calls.{decided, site, has_begun_to_send}
-use Rattle.dsql_laws.specs.history.Rules.Sent.{is_reset_due, asked_by, inner_after, line_with, line_of, closes, wish, sent_for, closing}
+use Rattle.dsql_laws.specs.history.Rules.Sent.{is_reset_due, asked_by, inner_after, line_with, line_of, closes, wish, sent_for, close_due}
 use Rattle.dsql_laws.specs.history.Rules.Ending.{ending}
 use Rattle.dsql_laws.specs.history.Rules.Line.{due_in, due_for, tidying, sends_in, is_due, is_due_at}
 use Rattle.dsql_laws.specs.history.Legal.{Lawful}
@@ -102,11 +102,11 @@ layer_due H e l f d layer due = by (is_begun H (number_of d.owner)) refl due
         (λ call. (wishes.Close, ap (λ o. is_due o e.call) (sym (line_of_call H e.conn e.tenure d.owner wishes.Close l d.lent call)) ∙ here))
     over_rows false gone x = absurd cc
 
-    closed : (b : Bool) → is_due (cond b (closing H (number_of d.owner)) None) e.call ≡ true → UnderWay H e
+    closed : (b : Bool) → is_due (cond b (close_due H (number_of d.owner)) None) e.call ≡ true → UnderWay H e
     closed true x = over_rows (are_over H (number_of d.owner)) refl x
     closed false x = absurd cc
 
-    by : (b : Bool) → is_begun H (number_of d.owner) ≡ b → is_due (cond b (cond (tx_ender H (number_of d.owner) == 0) (ending H (number_of d.owner)) None) (cond (ender H (number_of d.owner) == 0) (closing H (number_of d.owner)) None)) e.call ≡ true → UnderWay H e
+    by : (b : Bool) → is_begun H (number_of d.owner) ≡ b → is_due (cond b (cond (tx_ender H (number_of d.owner) == 0) (ending H (number_of d.owner)) None) (cond (ender H (number_of d.owner) == 0) (close_due H (number_of d.owner)) None)) e.call ≡ true → UnderWay H e
     by true begun x = ended (tx_ender H (number_of d.owner) == 0) begun x
     by false begun x = closed (ender H (number_of d.owner) == 0) x
 

@@ -7,7 +7,7 @@ use Rattle.dsql_laws.specs.pool.declared.conn.Conn.{Conn}
 use Rattle.dsql_laws.specs.pool.declared.conn.Place.{Place}
 use Rattle.dsql_laws.specs.pool.declared.conn.Place.TheVariants.{Idle, Opening}
 use Rattle.dsql_laws.specs.pool.Places.{conn_of, place_of, lends_of, is_opening}
-use Rattle.dsql_laws.specs.pool.Changes.{changed, gone, opening, lent, unwanted}
+use Rattle.dsql_laws.specs.pool.Changes.{conn_changed, gone, opening, lent, unwanted}
 use Rattle.dsql_laws.specs.pool.Pooled.{Pooled, next_number}
 use Rattle.dsql_laws.specs.pool.Moved.{begun, shut}
 use Rattle.dsql_laws.proofs.pool.Found.{KeepsNumber, found_changed, found_beside}
@@ -29,26 +29,26 @@ placed_as : (f : Conn → Conn) (p : Place) → ((x : Conn) → (f x).place ≡ 
 placed_as f p at None h = absurd cc
 placed_as f p at (Some x) h = ap Some (at x)
 
-pub changed_place : (c : ℕ) (f : Conn → Conn) (p : Place) (conns : List Conn) → KeepsNumber f → ((x : Conn) → (f x).place ≡ p) → is_some (place_of c conns) ≡ true → place_of c (changed c f conns) ≡ Some p
+pub changed_place : (c : ℕ) (f : Conn → Conn) (p : Place) (conns : List Conn) → KeepsNumber f → ((x : Conn) → (f x).place ≡ p) → is_some (place_of c conns) ≡ true → place_of c (conn_changed c f conns) ≡ Some p
 changed_place c f p conns keeps at there = ap place_in (found_changed c f keeps conns) ∙ placed_as f p at (conn_of c conns) there
 
 lent_as : (f : Conn → Conn) (o : Option Conn) → ((x : Conn) → (f x).lends ≡ x.lends) → lends_in (option_map f o) ≡ lends_in o
 lent_as f None at = refl
 lent_as f (Some x) at = at x
 
-pub changed_lends : (c : ℕ) (f : Conn → Conn) (conns : List Conn) → KeepsNumber f → ((x : Conn) → (f x).lends ≡ x.lends) → lends_of c (changed c f conns) ≡ lends_of c conns
+pub changed_lends : (c : ℕ) (f : Conn → Conn) (conns : List Conn) → KeepsNumber f → ((x : Conn) → (f x).lends ≡ x.lends) → lends_of c (conn_changed c f conns) ≡ lends_of c conns
 changed_lends c f conns keeps at = ap lends_in (found_changed c f keeps conns) ∙ lent_as f (conn_of c conns) at
 
 lent_more : (t : ℕ) (o : Owner) (moment : ℕ) (found : Option Conn) → is_some (place_in found) ≡ true → lends_in (option_map (lent t o moment) found) ≡ lends_in found + 1
 lent_more t o moment None h = absurd cc
 lent_more t o moment (Some x) h = refl
 
-pub lends_more : (c t : ℕ) (o : Owner) (moment : ℕ) (conns : List Conn) → is_some (place_of c conns) ≡ true → lends_of c (changed c (lent t o moment) conns) ≡ lends_of c conns + 1
+pub lends_more : (c t : ℕ) (o : Owner) (moment : ℕ) (conns : List Conn) → is_some (place_of c conns) ≡ true → lends_of c (conn_changed c (lent t o moment) conns) ≡ lends_of c conns + 1
 lends_more c t o moment conns there = ap lends_in (found_changed c (lent t o moment) (λ _. refl) conns) ∙ lent_more t o moment (conn_of c conns) there
 
 -- The other connections stay as they are.
 
-pub changed_off : (c d : ℕ) (f : Conn → Conn) (conns : List Conn) → KeepsNumber f → d ≢ c → conn_of d (changed c f conns) ≡ conn_of d conns
+pub changed_off : (c d : ℕ) (f : Conn → Conn) (conns : List Conn) → KeepsNumber f → d ≢ c → conn_of d (conn_changed c f conns) ≡ conn_of d conns
 changed_off c d f conns keeps apart = found_beside c d f keeps conns (other_number d c apart)
 
 pub gone_at : (c : ℕ) (conns : List Conn) → conn_of c (gone c conns) ≡ None

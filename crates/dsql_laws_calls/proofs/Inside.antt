@@ -10,7 +10,7 @@ use Rattle.dsql_laws.specs.driver.declared.answer.DriverAnswer.TheVariants.{Curs
 use Rattle.dsql_laws.specs.course.declared.course.Wish.TheVariants as wishes
 use Rattle.dsql_laws.specs.journal.declared.entry.Entry.{Entry}
 use Rattle.dsql_laws.specs.journal.Kinds.{number_of}
-use Rattle.dsql_laws.specs.numbered.Numbered.{thing_of, changed as changed_in, changed}
+use Rattle.dsql_laws.specs.numbered.Numbered.{thing_of, changed}
 use Rattle.dsql_laws.specs.rows.declared.rows.Rows.{Rows}
 use Rattle.dsql_laws.specs.rows.declared.end.RowsEnd.TheVariants as ends
 use Rattle.dsql_laws.specs.rows.OpenRows.{fresh, is_live, rows_of}
@@ -200,7 +200,7 @@ ended_rows H tx by_end n k goes hands lives = split (is_unfinished H maker) (sam
     maker = tx_maker (works H) tx
 
     split : (b : Bool) → (k ≡ maker) ⊎ (k ≢ maker) → live (rows_of n (cond b (handed_out H) (map (end_in H maker) (handed_out H)))) ≡ true
-        → thing_of k (cond b (transactions H) (changed_in (of_txs.ended_by by_end) maker (transactions H))) ≡ tx_by H k
+        → thing_of k (cond b (transactions H) (changed (of_txs.ended_by by_end) maker (transactions H))) ≡ tx_by H k
     split true x h = refl
     split false (inl same) h =
         let rows = mapped_rows (λ j. born (hands_out_in maker (work H j))) n (handed_out H) in

@@ -9,7 +9,7 @@ use Rattle.dsql_laws.specs.pool.declared.conn.Place.TheVariants.{Idle, Lent, Ope
 use Rattle.dsql_laws.specs.pool.declared.moves.CloseCause.{CloseCause}
 use Rattle.dsql_laws.specs.pool.declared.moves.Move.{Move}
 use Rattle.dsql_laws.specs.pool.declared.moves.Move.TheVariants.{OpenStart, Lend, Back, CloseStart, Gone, Fell}
-use Rattle.dsql_laws.specs.pool.Changes.{lent, back, closing, changed, gone, unwanted}
+use Rattle.dsql_laws.specs.pool.Changes.{lent, back, closing, conn_changed, gone, unwanted}
 use Rattle.dsql_laws.specs.pool.Places.{conn_of, place_of, is_idle, is_opening, is_lent, is_closing}
 use Rattle.dsql_laws.specs.pool.Pooled.{next_number, place_at}
 use Rattle.dsql_laws.specs.pool.Moved.{begun, shut}
@@ -121,13 +121,13 @@ placed_else f p t o (Some x) at other h = other (sym (at x) ∙ inner (f x).plac
     inner q k = cc
 
 before_changed : (H : List Event) (d c t : ℕ) (own : Owner) (f : Conn → Conn) (p : Place) → KeepsNumber f → ((x : Conn) → (f x).place ≡ p) → (p ≡ Lent t own → ⊥)
-    → place_in (conn_of c (changed d f (pool H).conns)) ≡ Some (Lent t own) → place H c ≡ Some (Lent t own)
+    → place_in (conn_of c (conn_changed d f (pool H).conns)) ≡ Some (Lent t own) → place H c ≡ Some (Lent t own)
 before_changed H d c t own f p keeps at other is = by (same_or_not c d)
   where
     by : (c ≡ d) ⊎ (c ≢ d) → place H c ≡ Some (Lent t own)
     by (inl same) =
         let here : place_in (option_map f (conn_of c (pool H).conns)) ≡ Some (Lent t own) =
-        sym (ap (λ e. place_in (conn_of c (changed e f (pool H).conns))) (sym same) ∙ ap place_in (found_changed c f keeps (pool H).conns)) ∙ is
+        sym (ap (λ e. place_in (conn_of c (conn_changed e f (pool H).conns))) (sym same) ∙ ap place_in (found_changed c f keeps (pool H).conns)) ∙ is
         in
         absurd (placed_else f p t own (conn_of c (pool H).conns) at other here)
     by (inr apart) = sym (ap place_in (changed_off d c f (pool H).conns keeps apart)) ∙ is
@@ -154,7 +154,7 @@ before_open H k c t own l is = by (same_or_not c (next_number (pool H)))
         absurd cc
     by (inr apart) = sym (ap place_in (begun_off c (wanted_by H k) (pool H) apart)) ∙ is
 
-before_lend : (H : List Event) (d u : ℕ) (o : Owner) (k c t : ℕ) (own : Owner) → place_in (conn_of c (changed d (lent u o (pool H).moment) (pool H).conns)) ≡ Some (Lent t own)
+before_lend : (H : List Event) (d u : ℕ) (o : Owner) (k c t : ℕ) (own : Owner) → place_in (conn_of c (conn_changed d (lent u o (pool H).moment) (pool H).conns)) ≡ Some (Lent t own)
     → (place H c ≡ Some (Lent t own)) ⊎ Lends (Pool (Lend d u o k)) c t own
 before_lend H d u o k c t own is = by (same_or_not c d)
   where
@@ -165,7 +165,7 @@ before_lend H d u o k c t own is = by (same_or_not c d)
     by : (c ≡ d) ⊎ (c ≢ d) → (place H c ≡ Some (Lent t own)) ⊎ Lends (Pool (Lend d u o k)) c t own
     by (inl same) =
         let here : place_in (option_map (lent u o (pool H).moment) (conn_of c (pool H).conns)) ≡ Some (Lent t own) =
-        sym (ap (λ e. place_in (conn_of c (changed e (lent u o (pool H).moment) (pool H).conns))) (sym same) ∙ ap place_in (found_changed c (lent u o (pool H).moment) (λ x. refl) (pool H).conns)) ∙ is
+        sym (ap (λ e. place_in (conn_of c (conn_changed e (lent u o (pool H).moment) (pool H).conns))) (sym same) ∙ ap place_in (found_changed c (lent u o (pool H).moment) (λ x. refl) (pool H).conns)) ∙ is
         in
         let is_now = lent_now (conn_of c (pool H).conns) here in
         inr (k, rw (same, is_now.0, is_now.1) refl)

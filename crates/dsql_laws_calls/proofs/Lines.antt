@@ -19,8 +19,7 @@ use Rattle.dsql_laws.specs.journal.Readers.{of_tenure, went_bad}
 use Rattle.dsql_laws.specs.pool.declared.conn.Place.{Place}
 use Rattle.dsql_laws.specs.pool.declared.conn.Place.TheVariants.{Lent}
 use Rattle.dsql_laws.specs.works.Exchanges.{exchanges}
-use Rattle.dsql_laws.specs.works.Line as plain
-use Rattle.dsql_laws.specs.works.Line.{Asked, sent_over, handed, body_with}
+use Rattle.dsql_laws.specs.works.Line.{Asked, sent_over, handed, body_with, body_after, line_after}
 use Rattle.dsql_laws.proofs.Tests.{both, same_itself}
 use Rattle.dsql_laws.specs.history.declared.event.Event.{Event}
 use Rattle.dsql_laws.specs.history.declared.event.Event.TheVariants.{Run, Heard}
@@ -79,7 +78,7 @@ reset_stays H e c t own l a is used = reset_as (caps H) (caps (e ∷ H)) (uses H
 pub inner_as : (ca cb : Caps) (bad : Bool) (x y : Asked) (w : Wish) (L : List Entry) → cb ≡ ca → y ≡ x → inner_after cb bad y w L ≡ inner_after ca bad x w L
 inner_as ca cb bad x y w L p q = rw (p, q) refl
 
-plain_as : (ca cb : Caps) (b d : Bool) (x y : Asked) (w : Wish) (L : List Entry) → cb ≡ ca → d ≡ b → y ≡ x → plain.line_after cb d y w L ≡ plain.line_after ca b x w L
+plain_as : (ca cb : Caps) (b d : Bool) (x y : Asked) (w : Wish) (L : List Entry) → cb ≡ ca → d ≡ b → y ≡ x → line_after cb d y w L ≡ line_after ca b x w L
 plain_as ca cb b d x y w L p r q = rw (p, r, q) refl
 
 -- The driver's abilities, whether a reset is due, and what the call asks decide what a line sends next.
@@ -113,7 +112,7 @@ over_closes : (can : Caps) (asked : Asked) (b : Bool) (close : Due) (rows : ℕ)
 over_closes can asked true close rows h = h
 over_closes can asked false close rows h = absurd cc
 
-body_closes : (can : Caps) (asked : Asked) (made : List Exchange) (o : Option ℕ) → is_some (plain.body_with can false asked wishes.Nothing made o) ≡ true → is_some (plain.body_with can false asked wishes.Close made o) ≡ true
+body_closes : (can : Caps) (asked : Asked) (made : List Exchange) (o : Option ℕ) → is_some (body_with can false asked wishes.Nothing made o) ≡ true → is_some (body_with can false asked wishes.Close made o) ≡ true
 body_closes can asked made None h = h
 body_closes can asked made (Some rows) h = over_closes can asked (rows_are_over made) (closing_of courses.Query false can (length asked.params) made) rows h
 
@@ -125,12 +124,12 @@ cond_closes : (b : Bool) (q c d : Option DriverCall) → (is_some c ≡ true →
 cond_closes true q c d h k = k
 cond_closes false q c d h k = h k
 
-after_closes : (can : Caps) (reset : Bool) (asked : Asked) (L : List Entry) → is_some (plain.line_after can reset asked wishes.Nothing L) ≡ true → is_some (plain.line_after can reset asked wishes.Close L) ≡ true
+after_closes : (can : Caps) (reset : Bool) (asked : Asked) (L : List Entry) → is_some (line_after can reset asked wishes.Nothing L) ≡ true → is_some (line_after can reset asked wishes.Close L) ≡ true
 after_closes can reset asked [] h =
-    cond_closes reset (Some Reset) (plain.body_after can false asked wishes.Nothing []) (plain.body_after can false asked wishes.Close []) (body_closes can asked [] (handed asked.aim [])) h
+    cond_closes reset (Some Reset) (body_after can false asked wishes.Nothing []) (body_after can false asked wishes.Close []) (body_closes can asked [] (handed asked.aim [])) h
 after_closes can reset asked (e ∷ earlier) h =
     let made = exchanges (e ∷ earlier) in
-    cond_closes (is_bad e.answer || is_valid e.call) None (plain.body_after can false asked wishes.Nothing made) (plain.body_after can false asked wishes.Close made) (body_closes can asked made (handed asked.aim made)) h
+    cond_closes (is_bad e.answer || is_valid e.call) None (body_after can false asked wishes.Nothing made) (body_after can false asked wishes.Close made) (body_closes can asked made (handed asked.aim made)) h
 
 with_closes : (H : List Event) (n c : ℕ) (bad : Bool) (it : Work) (s : Scope) (L : List Entry) → is_some (line_with H n c bad wishes.Nothing it s L) ≡ true → is_some (line_with H n c bad wishes.Close it s L) ≡ true
 with_closes H n c bad (works_of.Begin label level read_only) s L h = h

@@ -46,7 +46,7 @@ use Rattle.dsql_laws.specs.history.Readers.Journals.{journal, heard_in}
 use Rattle.dsql_laws.specs.history.Readers.Pool.{place, home}
 use Rattle.dsql_laws.specs.history.Readers.Transactions.{tx_end, is_begun, tx_ender}
 use Rattle.dsql_laws.specs.history.Readers.Calls.{decided}
-use Rattle.dsql_laws.specs.history.Rules.Sent.{line_of, closes, wish, sent_for, closing}
+use Rattle.dsql_laws.specs.history.Rules.Sent.{line_of, closes, wish, sent_for, close_due}
 use Rattle.dsql_laws.specs.history.Rules.Ending.{first_closing, ended_by_call, end_after, ending_at, ending_with, ending}
 use Rattle.dsql_laws.specs.history.Rules.Line.{due_inside, due_in, due_for, tidying, is_due, is_due_at, due_from, is_at, has_turn, sends_in}
 use Rattle.dsql_laws_calls.proofs.EndedRows.{mapped_rows, ender_over}
@@ -169,7 +169,7 @@ sent_begins H k wishes.Nothing some = refl
 sent_begins H k wishes.Fetch some = rows_line H k wishes.Fetch some
 sent_begins H k wishes.Close some = rows_line H k wishes.Close some
 
-closing_begins : (H : List Event) (n : ℕ) → begins_none (closing H n) ≡ true
+closing_begins : (H : List Event) (n : ℕ) → begins_none (close_due H n) ≡ true
 closing_begins H n = by (are_over H n) refl
   where
     by : (b : Bool) → are_over H n ≡ b → begins_none (cond b (line_of H n wishes.Close) None) ≡ true
@@ -187,7 +187,7 @@ cond_begins false c d h k = k
 first_begins : (H : List Event) (k n : ℕ) (ws : List Work) → begins_none (first_closing H k n ws) ≡ true
 first_begins H k n [] = refl
 first_begins H k n (it ∷ later) =
-    or_begins (cond (hands_out_in k it) (closing H n) None) (first_closing H k (n + 1) later) (cond_begins (hands_out_in k it) (closing H n) None (closing_begins H n) refl) (first_begins H k (n + 1) later)
+    or_begins (cond (hands_out_in k it) (close_due H n) None) (first_closing H k (n + 1) later) (cond_begins (hands_out_in k it) (close_due H n) None (closing_begins H n) refl) (first_begins H k (n + 1) later)
 
 test_begins : (can : Caps) → begins_none (test_of can) ≡ true
 test_begins can = elim can.validator as (λ b. begins_none (test_of (record can { validator = b })) ≡ true) [ true ↦ refl | false ↦ refl ]
@@ -217,9 +217,9 @@ ending_begins H k = by (tx_end H k)
 
 tidying_begins : (H : List Event) (n : ℕ) → begins_none (tidying H n) ≡ true
 tidying_begins H n =
-    cond_begins (is_begun H n) (cond (tx_ender H n == 0) (ending H n) None) (cond (ender H n == 0) (closing H n) None)
+    cond_begins (is_begun H n) (cond (tx_ender H n == 0) (ending H n) None) (cond (ender H n == 0) (close_due H n) None)
     (cond_begins (tx_ender H n == 0) (ending H n) None (ending_begins H n) refl)
-    (cond_begins (ender H n == 0) (closing H n) None (closing_begins H n) refl)
+    (cond_begins (ender H n == 0) (close_due H n) None (closing_begins H n) refl)
 
 due_begins : (H : List Event) (m : ℕ) → (m == 0) ≡ false → begins (work H m) ≡ false → begins_none (due_for H m) ≡ true
 due_begins H m some not_begin = cond_begins (is_unfinished H m) (due_in H m (work H m)) None (by (work H m) refl) refl

@@ -25,7 +25,7 @@ use Rattle.dsql_laws.specs.pool.declared.moves.Outcome.TheVariants.{Serves}
 use Rattle.dsql_laws.specs.pool.declared.request.Asked.{Asked}
 use Rattle.dsql_laws.specs.pool.declared.request.Asked.TheVariants as asked
 use Rattle.dsql_laws.specs.pool.declared.request.AskFault.{AskFault}
-use Rattle.dsql_laws.specs.pool.Changes.{lent, back, closing, opening, changed, gone, unwanted}
+use Rattle.dsql_laws.specs.pool.Changes.{lent, back, closing, opening, conn_changed, gone, unwanted}
 use Rattle.dsql_laws.specs.pool.Places.{conn_of}
 use Rattle.dsql_laws.specs.pool.Pooled.{Pooled, place_at, next_tenure, next_number}
 use Rattle.dsql_laws.specs.pool.Moved.{made, begun, shut, ticked}
@@ -256,7 +256,7 @@ begun_owned f w p own h =
     let last : are_owned f (opening (next_number p) w ∷ []) ≡ true = together (is_owned f (Opening w)) true own refl in
     list_all-append (λ x. is_owned f x.place) p.conns (opening (next_number p) w ∷ []) ∙ together (are_owned f p.conns) (are_owned f (opening (next_number p) w ∷ [])) h last
 
-changed_owned : (f : Owner → Bool) (c : ℕ) (change : Conn → Conn) (conns : List Conn) → ((x : Conn) → is_owned f (change x).place ≡ true) → are_owned f conns ≡ true → are_owned f (changed c change conns) ≡ true
+changed_owned : (f : Owner → Bool) (c : ℕ) (change : Conn → Conn) (conns : List Conn) → ((x : Conn) → is_owned f (change x).place ≡ true) → are_owned f conns ≡ true → are_owned f (conn_changed c change conns) ≡ true
 changed_owned f c change conns at h = all_changed (λ x. is_owned f x.place) c change conns (λ x k. at x) h
 
 gone_owned : (f : Owner → Bool) (c : ℕ) (conns : List Conn) → are_owned f conns ≡ true → are_owned f (gone c conns) ≡ true

@@ -24,8 +24,7 @@ use Rattle.dsql_laws.specs.pool.declared.conn.Place.TheVariants.{Lent}
 use Rattle.dsql_laws.specs.works.declared.work.Aim.{Aim}
 use Rattle.dsql_laws.specs.works.declared.work.Aim.TheVariants as aims
 use Rattle.dsql_laws.specs.works.Exchanges.{exchanges}
-use Rattle.dsql_laws.specs.works.Line as plain
-use Rattle.dsql_laws.specs.works.Line.{Asked, test_of, run_for, sent_as, sent_over, handed, found, body_with}
+use Rattle.dsql_laws.specs.works.Line.{Asked, test_of, run_for, sent_as, sent_over, handed, found, body_with, body_after, course_of, line_after}
 use Rattle.dsql_laws.specs.history.declared.event.Event.{Event}
 use Rattle.dsql_laws.specs.history.declared.work.Scope.{Scope}
 use Rattle.dsql_laws.specs.history.declared.work.Scope.TheVariants.{Db, Tx}
@@ -122,18 +121,18 @@ over_plain : (can : Caps) (asked : Asked) (o : Option Due) → is_plain (sent_ov
 over_plain can asked None = refl
 over_plain can asked (Some d) = sent_plain can asked d
 
-body_plain : (can : Caps) (asked : Asked) (w : Wish) (made : List Exchange) (o : Option ℕ) → is_plain (plain.body_with can false asked w made o) ≡ true
-body_plain can asked w made None = sent_plain can asked (comes_next (plain.course_of asked.aim) can (length asked.params) (found false) made)
+body_plain : (can : Caps) (asked : Asked) (w : Wish) (made : List Exchange) (o : Option ℕ) → is_plain (body_with can false asked w made o) ≡ true
+body_plain can asked w made None = sent_plain can asked (comes_next (course_of asked.aim) can (length asked.params) (found false) made)
 body_plain can asked w made (Some rows) = over_plain can asked (rows_next w can (length asked.params) made rows)
 
-pub line_plain : (can : Caps) (reset : Bool) (asked : Asked) (w : Wish) (L : List Entry) → is_plain (plain.line_after can reset asked w L) ≡ true
-line_plain can reset asked w [] = either_plain reset (Some Reset) (plain.body_after can false asked w []) refl (body_plain can asked w [] (handed asked.aim []))
+pub line_plain : (can : Caps) (reset : Bool) (asked : Asked) (w : Wish) (L : List Entry) → is_plain (line_after can reset asked w L) ≡ true
+line_plain can reset asked w [] = either_plain reset (Some Reset) (body_after can false asked w []) refl (body_plain can asked w [] (handed asked.aim []))
 line_plain can reset asked w (e ∷ earlier) =
     let made = exchanges (e ∷ earlier) in
-    either_plain (is_bad e.answer || is_valid e.call) None (plain.body_after can false asked w made) refl (body_plain can asked w made (handed asked.aim made))
+    either_plain (is_bad e.answer || is_valid e.call) None (body_after can false asked w made) refl (body_plain can asked w made (handed asked.aim made))
 
 inner_plain : (can : Caps) (bad : Bool) (asked : Asked) (w : Wish) (made : List Exchange) (o : Option ℕ) → is_plain (body_with can bad asked w made o) ≡ true
-inner_plain can bad asked w made None = sent_plain can asked (comes_next (plain.course_of asked.aim) can (length asked.params) (found bad) made)
+inner_plain can bad asked w made None = sent_plain can asked (comes_next (course_of asked.aim) can (length asked.params) (found bad) made)
 inner_plain can bad asked w made (Some rows) = over_plain can asked (rows_next_of courses.Query bad w can (length asked.params) made rows)
 
 -- Is true if the call begins a transaction.
@@ -170,7 +169,7 @@ begin_ends can reset level read_only (e ∷ earlier) =
 
 pub with_ends : (H : List Event) (n c : ℕ) (bad : Bool) (w : Wish) (it : Work) (s : Scope) (L : List Entry) → ends_none (line_with H n c bad w it s L) ≡ true
 with_ends H n c bad w (works.Begin label level read_only) s L = begin_ends (caps H) (is_reset_due H c) level read_only L
-with_ends H n c bad w it Db L = let l = plain.line_after (caps H) (is_reset_due H c) (asked_by H n) w L in plain_ends l (line_plain (caps H) (is_reset_due H c) (asked_by H n) w L)
+with_ends H n c bad w it Db L = let l = line_after (caps H) (is_reset_due H c) (asked_by H n) w L in plain_ends l (line_plain (caps H) (is_reset_due H c) (asked_by H n) w L)
 with_ends H n c bad w it (Tx k) L =
     plain_ends (inner_after (caps H) bad (asked_by H n) w L) (inner_plain (untested (caps H)) bad (asked_by H n) w (exchanges L) (handed (asked_by H n).aim (exchanges L)))
 

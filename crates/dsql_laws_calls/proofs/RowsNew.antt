@@ -19,8 +19,7 @@ use Rattle.dsql_laws.specs.rows.declared.rows.Rows.{Rows}
 use Rattle.dsql_laws.specs.rows.OpenRows.{ended_by, rows_of}
 use Rattle.dsql_laws.specs.works.Exchanges.{step_of, got_of, with_exchange, exchanges}
 use Rattle.dsql_laws.specs.works.HandedOut.{Made}
-use Rattle.dsql_laws.specs.works.Line as plain
-use Rattle.dsql_laws.specs.works.Line.{handed}
+use Rattle.dsql_laws.specs.works.Line.{handed, is_due_in_line}
 use Rattle.dsql_laws.specs.works.declared.work.Aim.TheVariants as aims
 use Rattle.dsql_laws_calls.proofs.Ends.{zero_work}
 use Rattle.dsql_laws_work.proofs.Rows.{same_or_not}
@@ -223,7 +222,7 @@ rows_new H e own input params l h is call query = by (rows_by H e.call_no) refl
         let f = s.facts in
         let sent = plain_due (call_line H e.conn e.tenure v.owner line.0) e.call (line_plain (caps H) (is_reset_due H e.conn) asked line.0 L) line.1 in
         due_over (caps H) (is_reset_due H e.conn) asked line.0 L (Query input params) cursor.0 (ap (λ a. handed a (exchanges L)) aim ∙ cursor.1) (f.made e.conn e.tenure v.owner v.lent (ap is_call same ∙ call))
-        (ap (λ q. plain.is_due (call_line H e.conn e.tenure v.owner line.0) q) (sym query) ∙ sent)
+        (ap (λ q. is_due_in_line (call_line H e.conn e.tenure v.owner line.0) q) (sym query) ∙ sent)
     contradiction v same numbered_so w its x some = absurd cc
 
     by : (o : Option Rows) → rows_by H e.call_no ≡ o → rows_by H e.call_no ≡ None

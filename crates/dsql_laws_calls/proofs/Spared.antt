@@ -12,7 +12,7 @@ use Rattle.dsql_laws.specs.journal.Readers.{is_empty}
 use Rattle.dsql_laws.specs.wait.declared.request.Request.{Request}
 use Rattle.dsql_laws.specs.pool.declared.conn.Conn.{Conn}
 use Rattle.dsql_laws.specs.pool.declared.conn.Place.{Place}
-use Rattle.dsql_laws.specs.pool.declared.conn.Place.TheVariants.{Idle, Lent, Opening, Closing}
+use Rattle.dsql_laws.specs.pool.declared.conn.Place.TheVariants.{Idle, Opening, Closing}
 use Rattle.dsql_laws.specs.pool.declared.moves.CloseCause.{CloseCause}
 use Rattle.dsql_laws.specs.pool.declared.moves.CloseCause.TheVariants.{IdleFull}
 use Rattle.dsql_laws.specs.pool.declared.moves.CloseCause.TheVariants as causes

@@ -14,7 +14,7 @@ use Rattle.dsql_laws.specs.pool.declared.conn.Place.{Place}
 use Rattle.dsql_laws.specs.pool.declared.conn.Place.TheVariants.{Idle, Lent, Opening, Closing}
 use Rattle.dsql_laws.specs.pool.declared.moves.Move.{Move}
 use Rattle.dsql_laws.specs.pool.declared.moves.Move.TheVariants.{OpenStart, Lend, Back, CloseStart, Gone, Fell}
-use Rattle.dsql_laws.specs.pool.Changes.{lent, back, closing, changed}
+use Rattle.dsql_laws.specs.pool.Changes.{lent, back, closing, conn_changed}
 use Rattle.dsql_laws.specs.pool.Places.{conn_of, lends_of, is_idle, is_lent, is_opening, is_closing}
 use Rattle.dsql_laws.specs.pool.Pooled.{next_tenure, next_number}
 use Rattle.dsql_laws.specs.pool.Moved.{shut}
@@ -38,11 +38,11 @@ use Rattle.dsql_laws_calls.proofs.Lent.{move_facts, elsewhere, lent_before}
 abbrev pub lends : List Event → ℕ → ℕ
 lends H c = lends_of c (pool H).conns
 
-changed_any : (d c : ℕ) (f : Conn → Conn) (conns : List Conn) → KeepsNumber f → ((x : Conn) → (f x).lends ≡ x.lends) → lends_of c (changed d f conns) ≡ lends_of c conns
+changed_any : (d c : ℕ) (f : Conn → Conn) (conns : List Conn) → KeepsNumber f → ((x : Conn) → (f x).lends ≡ x.lends) → lends_of c (conn_changed d f conns) ≡ lends_of c conns
 changed_any d c f conns keeps at = by (same_or_not c d)
   where
-    by : (c ≡ d) ⊎ (c ≢ d) → lends_of c (changed d f conns) ≡ lends_of c conns
-    by (inl same) = ap (λ e. lends_of c (changed e f conns)) (sym same) ∙ changed_lends c f conns keeps at
+    by : (c ≡ d) ⊎ (c ≢ d) → lends_of c (conn_changed d f conns) ≡ lends_of c conns
+    by (inl same) = ap (λ e. lends_of c (conn_changed e f conns)) (sym same) ∙ changed_lends c f conns keeps at
     by (inr apart) = ap lends_in (changed_off d c f conns keeps apart)
 
 move_lends : (H : List Event) (m : Move) (c t : ℕ) (own : Owner) → Lawful H → Allowed H (Pool m) → place H c ≡ Some (Lent t own) → lends (Pool m ∷ H) c ≡ lends H c

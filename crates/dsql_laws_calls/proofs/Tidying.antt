@@ -20,7 +20,7 @@ use Rattle.dsql_laws.specs.history.Readers.Journals.{heard_in, journal}
 use Rattle.dsql_laws.specs.history.Readers.Pool.{place, home}
 use Rattle.dsql_laws.specs.history.Readers.HandedOut.{ender, are_over}
 use Rattle.dsql_laws.specs.history.Readers.Calls.{site}
-use Rattle.dsql_laws.specs.history.Rules.Sent.{line_at, line_of, closing}
+use Rattle.dsql_laws.specs.history.Rules.Sent.{line_at, line_of, close_due}
 use Rattle.dsql_laws.specs.history.Legal.{Lawful}
 use Rattle.dsql_laws.proofs.Welcome.{due_may_come}
 use Rattle.dsql_laws.specs.course.Made.{or_else}
@@ -58,7 +58,7 @@ ending_lent H k h = by (tx_end H k) h
     by None x = absurd cc
     by (Some end) x = ended_where_lent H k (home H k) end (place H (home H k)) x
 
-pub closing_lent : (H : List Event) (n : ℕ) → is_some (closing H n) ≡ true → is_lent_for (borrower H n) (place H (site H n)) ≡ true
+pub closing_lent : (H : List Event) (n : ℕ) → is_some (close_due H n) ≡ true → is_lent_for (borrower H n) (place H (site H n)) ≡ true
 closing_lent H n h = by (are_over H n) h
   where
     by : (b : Bool) → is_some (cond b (line_of H n wishes.Close) None) ≡ true → is_lent_for (borrower H n) (place H (site H n)) ≡ true
@@ -75,7 +75,7 @@ begun_own H n h = asks_own H n (by (work H n) h)
 pub tidied_where_lent : (H : List Event) (n : ℕ) → Lawful H → is_some (tidying H n) ≡ true → is_lent_for (borrower H n) (place H (site H n)) ≡ true
 tidied_where_lent H n l h = by_begun (is_begun H n) refl h
   where
-    by_ender : (b : Bool) → is_some (cond b (closing H n) None) ≡ true → is_lent_for (borrower H n) (place H (site H n)) ≡ true
+    by_ender : (b : Bool) → is_some (cond b (close_due H n) None) ≡ true → is_lent_for (borrower H n) (place H (site H n)) ≡ true
     by_ender true k = closing_lent H n k
     by_ender false k = absurd cc
 
@@ -85,7 +85,7 @@ tidied_where_lent H n l h = by_begun (is_begun H n) refl h
         subst (λ m. is_lent_for m (place H (home H m)) ≡ true) (sym own) (ending_lent H n k)
     by_tx false begun k = absurd cc
 
-    by_begun : (b : Bool) → is_begun H n ≡ b → is_some (cond b (cond (tx_ender H n == 0) (ending H n) None) (cond (ender H n == 0) (closing H n) None)) ≡ true → is_lent_for (borrower H n) (place H (site H n)) ≡ true
+    by_begun : (b : Bool) → is_begun H n ≡ b → is_some (cond b (cond (tx_ender H n == 0) (ending H n) None) (cond (ender H n == 0) (close_due H n) None)) ≡ true → is_lent_for (borrower H n) (place H (site H n)) ≡ true
     by_begun true is k = by_tx (tx_ender H n == 0) is k
     by_begun false is k = by_ender (ender H n == 0) k
 

@@ -31,7 +31,7 @@ use Rattle.dsql_laws.specs.history.Readers.Lines.{line_among, has_sent}
 use Rattle.dsql_laws.specs.history.Readers.Pool.{place, home}
 use Rattle.dsql_laws.specs.history.Readers.Transactions.{tx_end, is_over, goes_on}
 use Rattle.dsql_laws.specs.history.Readers.Calls.{decided, site, has_begun_to_send}
-use Rattle.dsql_laws.specs.history.Rules.Sent.{asked_by, line_at, line_of, closing}
+use Rattle.dsql_laws.specs.history.Rules.Sent.{asked_by, line_at, line_of, close_due}
 use Rattle.dsql_laws.specs.history.Rules.Ending.{first_closing, ended_by_call, end_after, ending_at, ending_with, ending}
 use Rattle.dsql_laws.specs.history.Rules.Line.{due_in, due_for, if_sending, holder_at, holder, is_due}
 use Rattle.dsql_laws.specs.history.Legal.{Lawful}
@@ -115,18 +115,18 @@ ending_over H k h = by (tx_end H k) h
 record First (H : List Event) (k n : ℕ) (ws : List Work) : Type 0 where
   index : ℕ
   hands : hands_out_in k (get_or ws index Look) ≡ true
-  some : is_some (closing H (n + index)) ≡ true
+  some : is_some (close_due H (n + index)) ≡ true
 
 first_of : (H : List Event) (k n : ℕ) (ws : List Work) → is_some (first_closing H k n ws) ≡ true → First H k n ws
 first_of H k n [] h = absurd cc
-first_of H k n (w ∷ ws) h = by (first_of H k (n + 1) ws) (hands_out_in k w) (closing H n) refl refl h
+first_of H k n (w ∷ ws) h = by (first_of H k (n + 1) ws) (hands_out_in k w) (close_due H n) refl refl h
   where
-    by : (is_some (first_closing H k (n + 1) ws) ≡ true → First H k (n + 1) ws) → (b : Bool) (o : Option DriverCall) → hands_out_in k w ≡ b → closing H n ≡ o → is_some (or_else (cond b o None) (first_closing H k (n + 1) ws)) ≡ true → First H k n (w ∷ ws)
-    by rest true (Some q) hands is x = record { index = 0; hands = hands; some = subst (λ i. is_some (closing H i) ≡ true) (omega arith) (ap (λ o. is_some o) is) }
-    by rest true None hands is x = let f = rest x in record { index = suc f.index; hands = f.hands; some = subst (λ i. is_some (closing H i) ≡ true) (omega arith) f.some }
-    by rest false o hands is x = let f = rest x in record { index = suc f.index; hands = f.hands; some = subst (λ i. is_some (closing H i) ≡ true) (omega arith) f.some }
+    by : (is_some (first_closing H k (n + 1) ws) ≡ true → First H k (n + 1) ws) → (b : Bool) (o : Option DriverCall) → hands_out_in k w ≡ b → close_due H n ≡ o → is_some (or_else (cond b o None) (first_closing H k (n + 1) ws)) ≡ true → First H k n (w ∷ ws)
+    by rest true (Some q) hands is x = record { index = 0; hands = hands; some = subst (λ i. is_some (close_due H i) ≡ true) (omega arith) (ap (λ o. is_some o) is) }
+    by rest true None hands is x = let f = rest x in record { index = suc f.index; hands = f.hands; some = subst (λ i. is_some (close_due H i) ≡ true) (omega arith) f.some }
+    by rest false o hands is x = let f = rest x in record { index = suc f.index; hands = f.hands; some = subst (λ i. is_some (close_due H i) ≡ true) (omega arith) f.some }
 
-closes_of : (H : List Event) (c t : ℕ) (own : Owner) (k : ℕ) → Lawful H → place H c ≡ Some (Lent t own) → hands_out_in (number_of own) (work H k) ≡ true → is_some (closing H k) ≡ true → Closes H c t own k
+closes_of : (H : List Event) (c t : ℕ) (own : Owner) (k : ℕ) → Lawful H → place H c ≡ Some (Lent t own) → hands_out_in (number_of own) (work H k) ≡ true → is_some (close_due H k) ≡ true → Closes H c t own k
 closes_of H c t own k l is hands some = by (are_over H k) refl some
   where
     by : (b : Bool) → are_over H k ≡ b → is_some (cond b (line_of H k wishes.Close) None) ≡ true → Closes H c t own k
@@ -144,7 +144,7 @@ left_of H c t own l is some = by (tx_end H (number_of own)) some
     parts None end first x = tested (ended_there (heard_in H c t)) end refl x
     parts (Some q) end first x =
         let f = first_of H (number_of own) 0 (works H) (ap (λ o. is_some o) first) in
-        inr (inl (f.index, closes_of H c t own f.index l is f.hands (subst (λ i. is_some (closing H i) ≡ true) (omega arith) f.some)))
+        inr (inl (f.index, closes_of H c t own f.index l is f.hands (subst (λ i. is_some (close_due H i) ≡ true) (omega arith) f.some)))
 
     here : (end : TxEnd) → is_some (ending_at H (number_of own) (home H (number_of own)) end (place H (home H (number_of own)))) ≡ true
         → is_some (or_else (first_closing H (number_of own) 0 (works H)) (end_after H (went_bad (journal H c)) end (heard_in H c t))) ≡ true

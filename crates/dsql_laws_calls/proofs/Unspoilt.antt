@@ -17,13 +17,13 @@ use Rattle.dsql_laws.specs.pool.declared.conn.Place.{Place}
 use Rattle.dsql_laws.specs.pool.declared.conn.Place.TheVariants.{Idle, Lent, Opening, Closing}
 use Rattle.dsql_laws.specs.pool.declared.moves.Move.{Move}
 use Rattle.dsql_laws.specs.pool.declared.moves.Move.TheVariants.{OpenStart, Lend, Back, CloseStart, Gone, Fell}
-use Rattle.dsql_laws.specs.pool.Changes.{lent, back, closing, changed, gone}
+use Rattle.dsql_laws.specs.pool.Changes.{lent, back, closing, conn_changed, gone}
 use Rattle.dsql_laws.specs.pool.Decisions.{moves_back, when_given_back}
 use Rattle.dsql_laws.specs.pool.Moved.{shut, moved}
 use Rattle.dsql_laws.specs.pool.Places.{conn_of, is_idle, is_lent, is_opening, is_closing}
 use Rattle.dsql_laws.specs.pool.Pooled.{Pooled, next_number}
 use Rattle.dsql_laws.specs.works.Journals.{ends_invalid}
-use Rattle.dsql_laws_work.proofs.Lines.{is_over, due_while}
+use Rattle.dsql_laws_work.proofs.Lines.{sends_no_more, due_while}
 use Rattle.dsql_laws_work.proofs.Rows.{by_number, same_or_not}
 use Rattle.dsql_laws.specs.history.declared.event.Control.TheVariants.{Tick, Set}
 use Rattle.dsql_laws.specs.history.Same.{is_first}
@@ -66,7 +66,7 @@ is_spoilt J = went_bad J || ends_invalid J
 abbrev pub Fine : Bool → Bool → List Entry → Option Place → Type 0
 Fine heard opened J (Some (Opening wanted)) = (heard ≡ false → J ≡ []) × (opened ≡ true → is_spoilt J ≡ false)
 Fine heard opened J (Some Idle) = is_spoilt J ≡ false
-Fine heard opened J (Some (Lent t own)) = is_call own ≡ true → is_spoilt J ≡ true → is_over (of_tenure t J) ≡ true
+Fine heard opened J (Some (Lent t own)) = is_call own ≡ true → is_spoilt J ≡ true → sends_no_more (of_tenure t J) ≡ true
 Fine heard opened J (Some Closing) = Unit {0}
 Fine heard opened J None = Unit {0}
 
@@ -148,7 +148,7 @@ fine_lend H c t own n l a s d =
     let placed = changed_place c (lent t own (pool H).moment) (Lent t own) (pool H).conns (λ x. refl) (λ x. refl) (there_from (place H c) f.moves) in
     let now : Fine false false (journal H c) (Some (Lent t own)) = λ call bad. absurd (clash (is_spoilt (journal H c)) bad fine) in
     subst (λ p. Fine false false (journal H c) p) (sym placed) now)
-    (λ apart. untouched H (Pool (Lend c t own n)) d (conn_of d (changed c (lent t own (pool H).moment) (pool H).conns)) (s d) a (turned c d apart) (changed_off c d (lent t own (pool H).moment) (pool H).conns (λ x. refl) apart))
+    (λ apart. untouched H (Pool (Lend c t own n)) d (conn_of d (conn_changed c (lent t own (pool H).moment) (pool H).conns)) (s d) a (turned c d apart) (changed_off c d (lent t own (pool H).moment) (pool H).conns (λ x. refl) apart))
 
 good_fate : (bad invalid : Bool) (c : ℕ) (p : Pooled) → is_first (moves_back c p (when_given_back (fate_when bad invalid) c p)) (Back c) ≡ true → (bad || invalid) ≡ false
 good_fate true invalid c p h = absurd cc
@@ -182,7 +182,7 @@ fine_returned H c l a s d =
     let fine = fine_back (was_heard c H) (was_opened c H) (journal H c) (place H c) (s c) f.moves (opened_when H c (Back c) l k (same_itself c)) (good_back H c l k) in
     let placed = changed_place c (back (pool H).moment) Idle (pool H).conns (λ x. refl) (λ x. refl) (there_lent (place H c) f.moves) in
     subst (λ p. Fine false false (journal H c) p) (sym placed) fine)
-    (λ apart. untouched H (Pool (Back c)) d (conn_of d (changed c (back (pool H).moment) (pool H).conns)) (s d) a (turned c d apart) (changed_off c d (back (pool H).moment) (pool H).conns (λ x. refl) apart))
+    (λ apart. untouched H (Pool (Back c)) d (conn_of d (conn_changed c (back (pool H).moment) (pool H).conns)) (s d) a (turned c d apart) (changed_off c d (back (pool H).moment) (pool H).conns (λ x. refl) apart))
 
 fine_move : (H : List Event) (m : Move) → Lawful H → Allowed H (Pool m) → ((d : ℕ) → FineIn H d) → (d : ℕ) → FineIn (Pool m ∷ H) d
 fine_move H (OpenStart c n) l a s d = fine_open H c n l a d (s d)
@@ -193,7 +193,7 @@ fine_move H (CloseStart c why) l a s d =
     (let f = move_facts H (CloseStart c why) a in
     let placed = changed_place c closing Closing (pool H).conns (λ x. refl) (λ x. refl) (there_any (place H c) f.moves) in
     subst (λ p. Fine false false (journal H c) p) (sym placed) tt)
-    (λ apart. untouched H (Pool (CloseStart c why)) d (conn_of d (changed c closing (pool H).conns)) (s d) a (turned c d apart) (changed_off c d closing (pool H).conns (λ x. refl) apart))
+    (λ apart. untouched H (Pool (CloseStart c why)) d (conn_of d (conn_changed c closing (pool H).conns)) (s d) a (turned c d apart) (changed_off c d closing (pool H).conns (λ x. refl) apart))
 fine_move H (Gone c) l a s d =
     by_number c d (FineIn (Pool (Gone c) ∷ H))
     (subst (λ found. Fine false false (journal H c) (place_in found)) (sym (gone_at c (pool H).conns)) tt)
@@ -225,14 +225,14 @@ due_fine H e u call s = by (is_spoilt (journal H e.conn)) refl
     there : Fine (was_heard e.conn H) (was_opened e.conn H) (journal H e.conn) (Some (Lent e.tenure u.owner))
     there = subst (λ p. Fine (was_heard e.conn H) (was_opened e.conn H) (journal H e.conn) p) u.lent s
 
-    so_far : is_over (heard_in H e.conn e.tenure) ≡ false
+    so_far : sends_no_more (heard_in H e.conn e.tenure) ≡ false
     so_far = let x = u.line call in due_while (caps H) (is_reset_due H e.conn) (asked_by H (number_of u.owner)) x.0 (heard_in H e.conn e.tenure) (some_due (call_line H e.conn e.tenure u.owner x.0) e.call x.1)
 
     by : (b : Bool) → is_spoilt (journal H e.conn) ≡ b → is_spoilt (journal H e.conn) ≡ false
     by false is = is
-    by true is = absurd (clash (is_over (heard_in H e.conn e.tenure)) (there call is) so_far)
+    by true is = absurd (clash (sends_no_more (heard_in H e.conn e.tenure)) (there call is) so_far)
 
-newest_over : (e : Entry) (J L : List Entry) → (fits_of e.call e.answer && not (is_memory e.answer)) ≡ true → is_spoilt J ≡ false → is_spoilt (e ∷ J) ≡ true → is_over (e ∷ L) ≡ true
+newest_over : (e : Entry) (J L : List Entry) → (fits_of e.call e.answer && not (is_memory e.answer)) ≡ true → is_spoilt J ≡ false → is_spoilt (e ∷ J) ≡ true → sends_no_more (e ∷ L) ≡ true
 newest_over e J L fit good bad = by (is_bad e.answer || is_valid e.call) refl
   where
     first : went_bad J ≡ false
@@ -263,7 +263,7 @@ heard_there H e l a s (Some Idle) is = let hears : hears_in (pool H) (Some Idle)
 heard_there H e l a s (Some (Lent t own)) is = λ call bad.
     let w = was_under_way H e t own a (sound H l) is in
     let good = due_fine H e w.way (ap is_call w.owner ∙ call) s in
-    ap is_over (sym (ap (λ b. of_tenure t (cond b (e ∷ journal H e.conn) (journal H e.conn))) (same_itself e.conn)) ∙ heard_more H e e.conn t own a is refl)
+    ap sends_no_more (sym (ap (λ b. of_tenure t (cond b (e ∷ journal H e.conn) (journal H e.conn))) (same_itself e.conn)) ∙ heard_more H e e.conn t own a is refl)
     ∙ newest_over e (journal H e.conn) (heard_in H e.conn t) (fitting H e a) good bad
 heard_there H e l a s (Some Closing) is = tt
 heard_there H e l a s None is = tt

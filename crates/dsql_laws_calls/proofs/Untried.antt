@@ -11,7 +11,7 @@ use Rattle.dsql_laws.specs.pool.declared.conn.Place.{Place}
 use Rattle.dsql_laws.specs.pool.declared.conn.Place.TheVariants.{Opening}
 use Rattle.dsql_laws.specs.pool.declared.moves.Move.TheVariants.{OpenStart, Lend, Back, CloseStart, Gone, Fell}
 use Rattle.dsql_laws.specs.pool.Calls.{wants}
-use Rattle.dsql_laws.specs.pool.Changes.{lent, back, closing, gone, changed}
+use Rattle.dsql_laws.specs.pool.Changes.{lent, back, closing, gone, conn_changed}
 use Rattle.dsql_laws.specs.pool.Decisions.{falls_to, oldest_call}
 use Rattle.dsql_laws.specs.pool.Moved.{begun, joined, moved}
 use Rattle.dsql_laws.specs.pool.Places.{conn_of, is_for, is_idle, is_opening}
@@ -59,8 +59,8 @@ lends_one H c t o n a =
     let p = pool H in
     let f = lent t o p.moment in
     let one = lent_passes n t p.moment o (conn_of c p.conns) (sym (lends_to H c t o n a)) (moves_of H c t o n a) in
-    let counted = found_counts (is_lent_out n) c (changed c f p.conns) in
-    let here : passing (is_lent_out n) (conn_of c (changed c f p.conns)) ≡ 1 = ap (passing (is_lent_out n)) (found_changed c f (λ _. refl) p.conns) ∙ one in
+    let counted = found_counts (is_lent_out n) c (conn_changed c f p.conns) in
+    let here : passing (is_lent_out n) (conn_of c (conn_changed c f p.conns)) ≡ 1 = ap (passing (is_lent_out n)) (found_changed c f (λ _. refl) p.conns) ∙ one in
     omega (arith, counted, here)
 
 -- A call that is lent a connection wants none after that.

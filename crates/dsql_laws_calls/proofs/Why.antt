@@ -28,7 +28,7 @@ use Rattle.dsql_laws.specs.history.Readers.Journals.{journal, heard_in}
 use Rattle.dsql_laws.specs.history.Readers.Pool.{place}
 use Rattle.dsql_laws.specs.history.Readers.Transactions.{tx_end, is_begun, is_over, goes_on}
 use Rattle.dsql_laws.specs.history.Readers.HandedOut.{rows_by, are_live, are_over}
-use Rattle.dsql_laws.specs.history.Rules.Sent.{line_of, closing}
+use Rattle.dsql_laws.specs.history.Rules.Sent.{line_of, close_due}
 use Rattle.dsql_laws.specs.history.Rules.Ending.{first_closing, ended_by_call, end_after, ending_at, ending_with, ending}
 use Rattle.dsql_laws.specs.history.Rules.Line.{rest_with, rest, is_used, parts}
 use Rattle.dsql_laws.specs.history.Legal.{Lawful}
@@ -82,19 +82,19 @@ Why H c t own m = WhyOwn H c t own m ⊎ (WhyRows H c t own ⊎ WhyTx H c t own)
 
 -- So the connection is in use.
 
-pub first_some : (H : List Event) (k n j : ℕ) (ws : List Work) → hands_out_in k (get_or ws j Look) ≡ true → is_some (closing H (n + j)) ≡ true → is_some (first_closing H k n ws) ≡ true
+pub first_some : (H : List Event) (k n j : ℕ) (ws : List Work) → hands_out_in k (get_or ws j Look) ≡ true → is_some (close_due H (n + j)) ≡ true → is_some (first_closing H k n ws) ≡ true
 first_some H k n j [] hands some = absurd cc
-first_some H k n zero (w ∷ ws) hands some = at (hands_out_in k w) hands (subst (λ i. is_some (closing H i) ≡ true) (omega arith) some)
+first_some H k n zero (w ∷ ws) hands some = at (hands_out_in k w) hands (subst (λ i. is_some (close_due H i) ≡ true) (omega arith) some)
   where
     or_first : (o p : Option DriverCall) → is_some o ≡ true → is_some (or_else o p) ≡ true
     or_first None p h = absurd cc
     or_first (Some q) p h = refl
 
-    at : (b : Bool) → b ≡ true → is_some (closing H n) ≡ true → is_some (or_else (cond b (closing H n) None) (first_closing H k (n + 1) ws)) ≡ true
-    at true is h = or_first (closing H n) (first_closing H k (n + 1) ws) h
+    at : (b : Bool) → b ≡ true → is_some (close_due H n) ≡ true → is_some (or_else (cond b (close_due H n) None) (first_closing H k (n + 1) ws)) ≡ true
+    at true is h = or_first (close_due H n) (first_closing H k (n + 1) ws) h
     at false is h = absurd cc
 first_some H k n (suc j) (w ∷ ws) hands some =
-    or_second (cond (hands_out_in k w) (closing H n) None) (first_closing H k (n + 1) ws) (first_some H k (n + 1) j ws hands (subst (λ i. is_some (closing H i) ≡ true) (omega arith) some))
+    or_second (cond (hands_out_in k w) (close_due H n) None) (first_closing H k (n + 1) ws) (first_some H k (n + 1) j ws hands (subst (λ i. is_some (close_due H i) ≡ true) (omega arith) some))
   where
     or_second : (o p : Option DriverCall) → is_some p ≡ true → is_some (or_else o p) ≡ true
     or_second None p h = h
@@ -104,7 +104,7 @@ pub scoped : (w : Work) (n : ℕ) → hands_out_in n w ≡ true → scope w ≡ 
 scoped (HandOut (Tx j) label) n h = ap Tx (same_number j n h)
 scoped w n h = absurd cc
 
-pub closes_now : (H : List Event) (c t : ℕ) (own : Owner) (k : ℕ) → Lawful H → place H c ≡ Some (Lent t own) → Closes H c t own k → is_some (closing H k) ≡ true
+pub closes_now : (H : List Event) (c t : ℕ) (own : Owner) (k : ℕ) → Lawful H → place H c ≡ Some (Lent t own) → Closes H c t own k → is_some (close_due H k) ≡ true
 closes_now H c t own k l is x =
     ap (λ b. is_some (cond b (line_of H k wishes.Close) None)) x.over
     ∙ ap (λ d. is_some d) (line_here H c t own k wishes.Close l is (inside_uses H k (number_of own) (scoped (work H k) (number_of own) x.hands))) ∙ x.sends
@@ -137,7 +137,7 @@ ending_some H c t own end l is ended left = ap (λ d. is_some d) here ∙ by lef
         (ap (λ b. is_some (cond b (test_there H c t) (Some (ended_by_call end)))) none)
     by (inr (inl x)) =
         first (first_closing H (number_of own) 0 (works H)) (end_after H (went_bad (journal H c)) end (heard_in H c t))
-        (let x1 = x.1 in first_some H (number_of own) 0 x.0 (works H) x1.hands (subst (λ i. is_some (closing H i) ≡ true) (omega arith) (closes_now H c t own x.0 l is x.1)))
+        (let x1 = x.1 in first_some H (number_of own) 0 x.0 (works H) x1.hands (subst (λ i. is_some (close_due H i) ≡ true) (omega arith) (closes_now H c t own x.0 l is x.1)))
     by (inr (inr h)) = second (first_closing H (number_of own) 0 (works H)) (end_after H (went_bad (journal H c)) end (heard_in H c t)) (test (ended_there (heard_in H c t)) h)
 
 pub tx_used : (H : List Event) (c t : ℕ) (own : Owner) → Lawful H → place H c ≡ Some (Lent t own) → WhyTx H c t own → is_used H (number_of own) ≡ true

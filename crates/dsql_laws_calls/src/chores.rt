@@ -11,7 +11,7 @@ ghost use Rattle.dsql_laws.specs.history.Readers.Works.{borrower};
 ghost use Rattle.dsql_laws.specs.history.Readers.Calls.{site};
 ghost use Rattle.dsql_laws.specs.history.Readers.Pool.{home, place};
 ghost use Rattle.dsql_laws.specs.history.Rules.Ending.{ending};
-ghost use Rattle.dsql_laws.specs.history.Rules.Sent.{closing};
+ghost use Rattle.dsql_laws.specs.history.Rules.Sent.{close_due};
 ghost use Rattle.dsql_laws.specs.history.Legal.{Lawful};
 ghost use Rattle.dsql_laws_calls.specs.Chores.{is_lent_for};
 
@@ -20,7 +20,7 @@ ghost use Rattle.dsql_laws_calls.specs.Chores.{is_lent_for};
 /// that no call ended and that the layer tidies up. The answer to what the layer sends there may come while no
 /// call holds the turn. Once the run has ended, no call holds it.
 pub fn the_layer_may_tidy_up()
-    ensures rows { (history : List Event) (n : ℕ) → is_some (closing history n) ≡ true
+    ensures rows { (history : List Event) (n : ℕ) → is_some (close_due history n) ≡ true
         → is_lent_for (borrower history n) (place history (site history n)) ≡ true }
     ensures transaction { (history : List Event) (n : ℕ) → is_some (ending history n) ≡ true
         → is_lent_for n (place history (home history n)) ≡ true }

@@ -23,7 +23,7 @@ use Rattle.dsql_laws_calls.specs.history.Readers.Transactions.{is_begun, is_over
 use Rattle.dsql_laws_calls.specs.history.Readers.Works.{asks, borrower, hands_out_in, is_fetch, scope, work}
 use Rattle.dsql_laws_calls.specs.history.Rules.Ending.{ending}
 use Rattle.dsql_laws_calls.specs.history.Rules.Line.{due_for, due_in, is_due, is_due_at, is_used, may_come, parts, tidying}
-use Rattle.dsql_laws_calls.specs.history.Rules.Sent.{closes, closing, line_of, sent_for, wish}
+use Rattle.dsql_laws_calls.specs.history.Rules.Sent.{closes, close_due, line_of, sent_for, wish}
 use Rattle.dsql_laws_calls.specs.history.Legal.{Lawful}
 use Rattle.dsql_laws_calls.proofs.Beginnings.{begin_owner}
 use Rattle.dsql_laws_calls.proofs.Begun.{begun_begins, over_begun}
@@ -71,11 +71,11 @@ module _ (H : List Event) (e : Entry) (own : Owner) (l : Lawful H) (lent : place
       over true gone x = record { wish = wishes.Close; due = there wishes.Close x; kind = inl (refl, gone) }
       over false gone x = absurd cc
 
-      closed : (b : Bool) → is_due (cond b (closing H (number_of own)) None) e.call ≡ true → CallWay H e.conn e.tenure own e.call_no e.call
+      closed : (b : Bool) → is_due (cond b (close_due H (number_of own)) None) e.call ≡ true → CallWay H e.conn e.tenure own e.call_no e.call
       closed true x = over (are_over H (number_of own)) refl x
       closed false x = absurd cc
 
-      by : (b : Bool) → is_begun H (number_of own) ≡ b → is_due (cond b (cond (tx_ender H (number_of own) == 0) (ending H (number_of own)) None) (cond (ender H (number_of own) == 0) (closing H (number_of own)) None)) e.call ≡ true
+      by : (b : Bool) → is_begun H (number_of own) ≡ b → is_due (cond b (cond (tx_ender H (number_of own) == 0) (ending H (number_of own)) None) (cond (ender H (number_of own) == 0) (close_due H (number_of own)) None)) e.call ≡ true
           → CallWay H e.conn e.tenure own e.call_no e.call
       by true begun x = call_unbegun H e.conn e.tenure own l lent call begun
       by false begun x = closed (ender H (number_of own) == 0) x

@@ -14,7 +14,7 @@ use Rattle.dsql_laws_calls.specs.course.declared.call.Due.TheVariants as due
 use Rattle.dsql_laws_calls.specs.course.Steps.{Step, PrepareText, RunHandle, FetchRow, CloseCursor, CloseHandle}
 use Rattle.dsql_laws_calls.specs.course.Made.{Exchange, went_bad, was_skipped, own_cursor, own_handle, given_cursor, given_handle, or_else, has_fast_way, reads_one, rows_are_over, live_handle}
 use Rattle.dsql_laws_calls.specs.course.Line.{Found, comes_next, first_wanted, lets_handle_go, or_then, run_with, steps_left, wanted, when}
-use Rattle.dsql_laws_calls.specs.course.Rows.{closing, closing_of, rows_next_if}
+use Rattle.dsql_laws_calls.specs.course.Rows.{no_more_wanted, closing_of, rows_next_if}
 use Rattle.dsql_laws_calls.specs.journal.Kinds.{◌⇒◌}
 use Rattle.dsql_laws_calls.specs.works.declared.work.Aim.{Aim}
 use Rattle.dsql_laws_calls.specs.works.declared.work.Aim.TheVariants as aims
@@ -210,7 +210,7 @@ line_shut can asked made it sent fine h = by_aim asked.aim it (sent_orderly can 
     none_read (Some r) own k = absurd cc
 
     closed : is_some (sent_as (untested can) (asking asked.text asked.params aims.HandOut) (closing_of courses.Query false (untested can) (length asked.params) made)) ≡ false → IsShut made
-    closed k = one_shut can (asking asked.text asked.params aims.HandOut) (untested can) (length asked.params) (closing false) refl made t fine k
+    closed k = one_shut can (asking asked.text asked.params aims.HandOut) (untested can) (length asked.params) (no_more_wanted false) refl made t fine k
 
     over_rows : (rows : ℕ) (b : Bool)
         → is_some (sent_over (untested can) (asking asked.text asked.params aims.HandOut) (rows_next_if b wishes.Close (closing_of courses.Query false (untested can) (length asked.params) made) rows)) ≡ false → IsShut made
@@ -257,20 +257,20 @@ ungiven_shut made none = record { cursor = no_cursor made (cursor made none); ha
 
 -- On a connection that is known to be bad, nothing is sent to close rows.
 
-stopped_none : (can cn : Caps) (asked : Asked) (args : ℕ) (made : List Exchange) → sends can asked (comes_next courses.One cn args (closing true) made) ≡ false
+stopped_none : (can cn : Caps) (asked : Asked) (args : ℕ) (made : List Exchange) → sends can asked (comes_next courses.One cn args (no_more_wanted true) made) ≡ false
 stopped_none can cn asked args made = by (went_bad made) (left made)
   where
     no_when : (b : Bool) (call d : Due) → sends can asked d ≡ false → sends can asked (or_then (when (b && false) call) d) ≡ false
     no_when true call d h = h
     no_when false call d h = h
 
-    left : (xs : List Exchange) → sends can asked (first_wanted courses.One cn args (closing true) xs (steps_left courses.One xs)) ≡ false
+    left : (xs : List Exchange) → sends can asked (first_wanted courses.One cn args (no_more_wanted true) xs (steps_left courses.One xs)) ≡ false
     left [] = no_when (has_fast_way courses.One cn) due.Text (or_then (when ((true && (not (has_fast_way courses.One cn) || was_skipped [])) && false) due.Prepare) due.Over) (no_when (true && (not (has_fast_way courses.One cn) || was_skipped [])) due.Prepare due.Over refl)
     left ((due.Text, g) ∷ xs) = no_when (true && (not (has_fast_way courses.One cn) || was_skipped ((due.Text, g) ∷ xs))) due.Prepare due.Over refl
     left (_ ∷ xs) = refl
 
-    by : (b : Bool) → sends can asked (first_wanted courses.One cn args (closing true) made (steps_left courses.One made)) ≡ false
-        → sends can asked (if b then due.Over else first_wanted courses.One cn args (closing true) made (steps_left courses.One made)) ≡ false
+    by : (b : Bool) → sends can asked (first_wanted courses.One cn args (no_more_wanted true) made (steps_left courses.One made)) ≡ false
+        → sends can asked (if b then due.Over else first_wanted courses.One cn args (no_more_wanted true) made (steps_left courses.One made)) ≡ false
     by true h = refl
     by false h = h
 

@@ -19,7 +19,7 @@ use Rattle.dsql_laws_calls.specs.course.declared.call.Got.{Got}
 use Rattle.dsql_laws_calls.specs.course.Steps.{PrepareText, RunHandle, FetchRow, CloseCursor, CloseHandle}
 use Rattle.dsql_laws_calls.specs.course.Made.{Exchange, went_bad, was_skipped, own_cursor, own_handle, given_cursor, given_handle, or_else, has_fast_way, rows_are_over}
 use Rattle.dsql_laws_calls.specs.course.Line.{Found, comes_next, first_wanted, or_then, run_with, steps_left, when}
-use Rattle.dsql_laws_calls.specs.course.Rows.{closing, closing_of, rows_next_if}
+use Rattle.dsql_laws_calls.specs.course.Rows.{no_more_wanted, closing_of, rows_next_if}
 use Rattle.dsql_laws_calls.specs.journal.Kinds.{◌⇒◌, is_number}
 use Rattle.dsql_laws_calls.specs.works.declared.work.Aim.{Aim}
 use Rattle.dsql_laws_calls.specs.works.declared.work.Aim.TheVariants as aims
@@ -200,7 +200,7 @@ freed can asked bad wish made n it o t good h = by_aim asked.aim it o h
 
     closes : is_due (sent_as (untested can) (asking asked.text asked.params aims.HandOut) (closing_of courses.Query bad (untested can) (length asked.params) made)) (calls.CloseStmt n) ≡ true → NoCursor made
     closes k =
-        one_free (untested can) (length asked.params) (closing bad) made good t
+        one_free (untested can) (length asked.params) (no_more_wanted bad) made good t
         (free_due can (asking asked.text asked.params aims.HandOut) (closing_of courses.Query bad (untested can) (length asked.params) made) n k)
 
     over_rows : (rows : ℕ) (b : Bool) (w : Wish)

@@ -30,7 +30,7 @@ use Rattle.dsql_laws_calls.specs.works.declared.work.Aim.{Aim}
 use Rattle.dsql_laws_calls.specs.works.declared.work.Aim.TheVariants as aims
 use Rattle.dsql_laws_calls.specs.works.Exchanges.{exchanges, got_of, step_of, with_exchange}
 use Rattle.dsql_laws_calls.specs.works.Line.{Asked, body_after, handed, line_after, sent_over}
-use Rattle.dsql_laws_calls.proofs.laws_work.Lines.{is_over}
+use Rattle.dsql_laws_calls.proofs.laws_work.Lines.{sends_no_more}
 use Rattle.dsql_laws_calls.proofs.laws_work.Rows.{same_or_not}
 use Rattle.dsql_laws_calls.proofs.laws.Tests.{both, other_number, same_number}
 use Rattle.dsql_laws_calls.specs.history.declared.event.Event.{Event}
@@ -72,7 +72,7 @@ use Rattle.dsql_laws_due.proofs.Owned.{heard_owner}
 -- Holds if the rows aren't over there, and the tenure isn't at its end.
 pub record IsGoing (L : List Entry) : Type 0 where
   pub open_rows : rows_are_over (exchanges L) ≡ false
-  pub unended : is_over L ≡ false
+  pub unended : sends_no_more L ≡ false
 
 -- In such a tenure, what is due is what `over_rows` gives.
 pub going_line : (can : Caps) (reset : Bool) (asked : Asked) (w : Wish) (L : List Entry) (r : ℕ) → handed asked.aim (exchanges L) ≡ Some r → IsGoing L

@@ -19,7 +19,6 @@ use Rattle.dsql_laws_calls.specs.course.Rows.{closing_of, rows_next_if}
 use Rattle.dsql_laws_calls.specs.works.declared.work.Aim.{Aim}
 use Rattle.dsql_laws_calls.specs.works.declared.work.Aim.TheVariants as aims
 use Rattle.dsql_laws_calls.specs.works.Exchanges.{got_of, step_of}
-use Rattle.dsql_laws_calls.specs.works.Line as plain
 use Rattle.dsql_laws_calls.specs.works.Line.{Asked, handed, sent_over, body_after, body_with}
 use Rattle.dsql_laws_calls.proofs.laws.Tests.{both}
 use Rattle.dsql_laws_tenures.specs.Orderly.{is_in_order, place}
@@ -48,12 +47,12 @@ open_inner can bad asked w made rows own on = by asked.aim own
     by _ is = absurd cc
 
 pub open_plain : (can : Caps) (asked : Asked) (w : Wish) (made : List Exchange) (rows : ℕ) → handed asked.aim made ≡ Some rows → rows_are_over made ≡ false
-    → plain.body_after can false asked w made ≡ over_rows w rows (sent_over can asked (Some (closing_of courses.Query false can (length asked.params) made)))
+    → body_after can false asked w made ≡ over_rows w rows (sent_over can asked (Some (closing_of courses.Query false can (length asked.params) made)))
 open_plain can asked w made rows own on = by asked.aim own
   where
-    by : (x : Aim) → handed x made ≡ Some rows → plain.body_after can false (asking asked.text asked.params x) w made ≡ over_rows w rows (sent_over can (asking asked.text asked.params x) (Some (closing_of courses.Query false can (length asked.params) made)))
+    by : (x : Aim) → handed x made ≡ Some rows → body_after can false (asking asked.text asked.params x) w made ≡ over_rows w rows (sent_over can (asking asked.text asked.params x) (Some (closing_of courses.Query false can (length asked.params) made)))
     by aims.HandOut is =
-        ap (λ o. plain.body_with can false (asking asked.text asked.params aims.HandOut) w made o) is
+        ap (λ o. body_with can false (asking asked.text asked.params aims.HandOut) w made o) is
         ∙ sent_if can (asking asked.text asked.params aims.HandOut) w (closing_of courses.Query false can (length asked.params) made) rows (rows_are_over made) on
     by _ is = absurd cc
 

@@ -15,7 +15,7 @@ use Rattle.dsql_laws_calls.specs.pool.declared.conn.Place.TheVariants.{Idle, Len
 use Rattle.dsql_laws_calls.specs.pool.declared.moves.CloseCause.{CloseCause}
 use Rattle.dsql_laws_calls.specs.pool.declared.moves.Move.{Move}
 use Rattle.dsql_laws_calls.specs.pool.declared.moves.Move.TheVariants.{OpenStart, Lend, Back, CloseStart, Gone, Fell}
-use Rattle.dsql_laws_calls.specs.pool.Changes.{lent, back, closing, changed, gone}
+use Rattle.dsql_laws_calls.specs.pool.Changes.{lent, back, closing, conn_changed, gone}
 use Rattle.dsql_laws_calls.specs.pool.Moved.{begun, shut}
 use Rattle.dsql_laws_calls.specs.pool.Places.{conn_of, place_of, lends_of, is_opening, is_closing}
 use Rattle.dsql_laws_calls.specs.pool.Pooled.{next_number, next_tenure, place_at}
@@ -120,12 +120,12 @@ stands_lend H c t o n l s d =
     let there = there_from (place H c) f.moves in
     let rests = rests_from c (lends H c) (uses H c) (was_heard c H) (was_opened c H) (journal H c) (place H c) (s c) f.moves (opened_when H c (Lend c t o n) l.0 (keeps_of H (Pool (Lend c t o n)) l.1) (same_itself c)) in
     let placed = changed_place c (lent t o (pool H).moment) (Lent t o) (pool H).conns (λ x. refl) (λ x. refl) there in
-    let found = conn_of c (changed c (lent t o (pool H).moment) (pool H).conns) in
+    let found = conn_of c (conn_changed c (lent t o (pool H).moment) (pool H).conns) in
     let owner = owner_is_of (Pool (Lend c t o n) ∷ H) c t o l placed in
     stands_found c (lends H c + 1) (uses_in found) false false (journal H c) (journal H c) (Some (Lent t o)) found (lends_more c t o (pool H).moment (pool H).conns there) refl refl placed
     (lent_first c (lends H c) t (journal H c) o (work H (number_of o)) owner.1 rests tenure))
     (λ apart.
-    stands_beside H (Lend c t o n) d (conn_of d (changed c (lent t o (pool H).moment) (pool H).conns)) l.1 s (turned c d apart) (changed_off c d (lent t o (pool H).moment) (pool H).conns (λ x. refl) apart))
+    stands_beside H (Lend c t o n) d (conn_of d (conn_changed c (lent t o (pool H).moment) (pool H).conns)) l.1 s (turned c d apart) (changed_off c d (lent t o (pool H).moment) (pool H).conns (λ x. refl) apart))
 
 -- A connection that comes back to be kept went well, and its tenure is whole.
 
@@ -164,21 +164,21 @@ stands_back : (H : List Event) (c : ℕ) → Lawful (Pool (Back c) ∷ H) → ((
 stands_back H c l s d =
     by_number c d (StandsIn (Pool (Back c) ∷ H))
     (let f = move_facts H (Back c) l.1 in
-    let found = conn_of c (changed c (back (pool H).moment) (pool H).conns) in
+    let found = conn_of c (conn_changed c (back (pool H).moment) (pool H).conns) in
     let rests = rests_back c (lends H c) (uses H c) (was_heard c H) (was_opened c H) (journal H c) (place H c) (s c) f.moves (opened_when H c (Back c) l.0 (keeps_of H (Pool (Back c)) l.1) (same_itself c)) (λ t own is. rests_lent H c t own l is (lent_to H c t own (s c) is)) in
     stands_found c (lends H c) (uses_in found) false false (journal H c) (journal H c) (Some Idle) found (changed_lends c (back (pool H).moment) (pool H).conns (λ x. refl) (λ x. refl)) refl refl
     (changed_place c (back (pool H).moment) Idle (pool H).conns (λ x. refl) (λ x. refl) (there_lent (place H c) f.moves)) rests)
-    (λ apart. stands_beside H (Back c) d (conn_of d (changed c (back (pool H).moment) (pool H).conns)) l.1 s (turned c d apart) (changed_off c d (back (pool H).moment) (pool H).conns (λ x. refl) apart))
+    (λ apart. stands_beside H (Back c) d (conn_of d (conn_changed c (back (pool H).moment) (pool H).conns)) l.1 s (turned c d apart) (changed_off c d (back (pool H).moment) (pool H).conns (λ x. refl) apart))
 
 stands_close : (H : List Event) (c : ℕ) (why : CloseCause) → Lawful H → Allowed H (Pool (CloseStart c why)) → ((d : ℕ) → StandsIn H d) → (d : ℕ) → StandsIn (Pool (CloseStart c why) ∷ H) d
 stands_close H c why l a s d =
     by_number c d (StandsIn (Pool (CloseStart c why) ∷ H))
     (let f = move_facts H (CloseStart c why) a in
-    let found = conn_of c (changed c closing (pool H).conns) in
+    let found = conn_of c (conn_changed c closing (pool H).conns) in
     let leaves = standing.leaves_from c (lends H c) (uses H c) (was_heard c H) (was_opened c H) (journal H c) (place H c) (s c) f.moves (opened_when H c (CloseStart c why) l (keeps_of H (Pool (CloseStart c why)) a) (same_itself c)) (λ t owner is. ap (leaves_whole H c) (sym is) ∙ close_whole H c why a) in
     stands_found c (lends H c) (uses_in found) false false (journal H c) (journal H c) (Some Closing) found (changed_lends c closing (pool H).conns (λ x. refl) (λ x. refl)) refl refl
     (changed_place c closing Closing (pool H).conns (λ x. refl) (λ x. refl) (there_any (place H c) f.moves)) (λ h. leaves))
-    (λ apart. stands_beside H (CloseStart c why) d (conn_of d (changed c closing (pool H).conns)) a s (turned c d apart) (changed_off c d closing (pool H).conns (λ x. refl) apart))
+    (λ apart. stands_beside H (CloseStart c why) d (conn_of d (conn_changed c closing (pool H).conns)) a s (turned c d apart) (changed_off c d closing (pool H).conns (λ x. refl) apart))
 
 stands_out : (H : List Event) (m : Move) (c : ℕ) → Allowed H (Pool m) → ((d : ℕ) → StandsIn H d) → ((d : ℕ) → d ≢ c → moves d (Pool m) ≡ false) → (d : ℕ)
     → Stands d (lends_of d (gone c (pool H).conns)) (uses_in (conn_of d (gone c (pool H).conns))) false false (journal H d) (place_of d (gone c (pool H).conns))

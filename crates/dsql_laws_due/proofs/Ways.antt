@@ -35,7 +35,7 @@ use Rattle.dsql_laws_calls.specs.history.Readers.Lines.{line_among, has_sent}
 use Rattle.dsql_laws_calls.specs.history.Readers.Pool.{place, home}
 use Rattle.dsql_laws_calls.specs.history.Readers.Transactions.{tx_end, is_begun, is_over, tx_ender}
 use Rattle.dsql_laws_calls.specs.history.Readers.Calls.{decided, has_begun_to_send, site}
-use Rattle.dsql_laws_calls.specs.history.Rules.Sent.{asked_by, inner_after, untested, line_of, closes, wish, sent_for, closing}
+use Rattle.dsql_laws_calls.specs.history.Rules.Sent.{asked_by, inner_after, untested, line_of, closes, wish, sent_for, close_due}
 use Rattle.dsql_laws_calls.specs.history.Rules.Ending.{first_closing, ended_by_call, end_after, ending_at, ending_with, ending}
 use Rattle.dsql_laws_calls.specs.history.Rules.Line.{due_in, due_for, tidying, is_due, is_due_at}
 use Rattle.dsql_laws_calls.specs.history.Legal.{Lawful}
@@ -117,7 +117,7 @@ module _ (H : List Event) (e : Entry) (t : ℕ) (own : Owner) (l : Lawful H) (f 
       let in_it = hands_in (work H n) hands inner in
       let some = handed_made H e.conn e.tenure n l hands (cursor (work H n) h) in
       let dead = rows_over H n (number_of own) l in_it gone some in
-      let none : is_some (closing H n) ≡ false = unclosed (is_some (closing H n)) refl in_it in
+      let none : is_some (close_due H n) ≡ false = unclosed (is_some (close_due H n)) refl in_it in
       unsent n inner
       (sym (ap (λ o. is_some o) (inner_is H e.conn e.tenure own n wishes.Close (number_of own) other inner))
       ∙ (sym (ap (λ o. is_some o) (line_here H e.conn e.tenure own n wishes.Close l lent (inside_uses H n (number_of own) inner)))
@@ -131,9 +131,9 @@ module _ (H : List Event) (e : Entry) (t : ℕ) (own : Owner) (l : Lawful H) (f 
       cursor (HandOut s label) x = x
       cursor w x = absurd cc
 
-      unclosed : (b : Bool) → is_some (closing H n) ≡ b → hands_out_in (number_of own) (work H n) ≡ true → b ≡ false
+      unclosed : (b : Bool) → is_some (close_due H n) ≡ b → hands_out_in (number_of own) (work H n) ≡ true → b ≡ false
       unclosed true is in_it =
-          let some = first_some H (number_of own) 0 n (works H) in_it (subst (λ i. is_some (closing H i) ≡ true) (omega arith) is) in
+          let some = first_some H (number_of own) 0 n (works H) in_it (subst (λ i. is_some (close_due H i) ≡ true) (omega arith) is) in
           clash (sym some ∙ ap (λ o. is_some o) closed)
       unclosed false is in_it = refl
 
@@ -193,17 +193,17 @@ module _ (H : List Event) (e : Entry) (t : ℕ) (own : Owner) (l : Lawful H) (f 
 record First (H : List Event) (k n : ℕ) (ws : List Work) (q : DriverCall) : Type 0 where
   index : ℕ
   hands : hands_out_in k (get_or ws index Look) ≡ true
-  some : is_due (closing H (n + index)) q ≡ true
+  some : is_due (close_due H (n + index)) q ≡ true
 
 first_of : (H : List Event) (k n : ℕ) (ws : List Work) (q : DriverCall) → is_due (first_closing H k n ws) q ≡ true → First H k n ws q
 first_of H k n [] q h = absurd cc
-first_of H k n (w ∷ ws) q h = by (first_of H k (n + 1) ws q) (hands_out_in k w) (closing H n) refl refl h
+first_of H k n (w ∷ ws) q h = by (first_of H k (n + 1) ws q) (hands_out_in k w) (close_due H n) refl refl h
   where
-    by : (is_due (first_closing H k (n + 1) ws) q ≡ true → First H k (n + 1) ws q) → (b : Bool) (o : Option DriverCall) → hands_out_in k w ≡ b → closing H n ≡ o
+    by : (is_due (first_closing H k (n + 1) ws) q ≡ true → First H k (n + 1) ws q) → (b : Bool) (o : Option DriverCall) → hands_out_in k w ≡ b → close_due H n ≡ o
         → is_due (or_else (cond b o None) (first_closing H k (n + 1) ws)) q ≡ true → First H k n (w ∷ ws) q
-    by rest true (Some p) hands is x = record { index = 0; hands = hands; some = subst (λ i. is_due (closing H i) q ≡ true) (omega arith) (ap (λ o. is_due o q) is ∙ x) }
-    by rest true None hands is x = let g = rest x in record { index = suc g.index; hands = g.hands; some = subst (λ i. is_due (closing H i) q ≡ true) (omega arith) g.some }
-    by rest false o hands is x = let g = rest x in record { index = suc g.index; hands = g.hands; some = subst (λ i. is_due (closing H i) q ≡ true) (omega arith) g.some }
+    by rest true (Some p) hands is x = record { index = 0; hands = hands; some = subst (λ i. is_due (close_due H i) q ≡ true) (omega arith) (ap (λ o. is_due o q) is ∙ x) }
+    by rest true None hands is x = let g = rest x in record { index = suc g.index; hands = g.hands; some = subst (λ i. is_due (close_due H i) q ≡ true) (omega arith) g.some }
+    by rest false o hands is x = let g = rest x in record { index = suc g.index; hands = g.hands; some = subst (λ i. is_due (close_due H i) q ≡ true) (omega arith) g.some }
 
 end_is : (end : TxEnd) (q : DriverCall) → is_due (Some (ended_by_call end)) q ≡ true → is_ending q ≡ true
 end_is tx_ends.Commit calls.Commit h = refl
@@ -224,7 +224,7 @@ test_is can q h = by can.validator h
     by true x = valid q x
     by false x = absurd cc
 
-rows_way : (H : List Event) (c t : ℕ) (own : Owner) (m n : ℕ) (q : DriverCall) → Lawful H → place H c ≡ Some (Lent t own) → hands_out_in (number_of own) (work H n) ≡ true → is_due (closing H n) q ≡ true → RowsWay H c t own m q
+rows_way : (H : List Event) (c t : ℕ) (own : Owner) (m n : ℕ) (q : DriverCall) → Lawful H → place H c ≡ Some (Lent t own) → hands_out_in (number_of own) (work H n) ≡ true → is_due (close_due H n) q ≡ true → RowsWay H c t own m q
 rows_way H c t own m n q l is hands due = by (are_over H n) refl due
   where
     by : (b : Bool) → are_over H n ≡ b → is_due (cond b (line_of H n wishes.Close) None) q ≡ true → RowsWay H c t own m q
@@ -268,7 +268,7 @@ ending_way H e own l f kept d same other elsewhere due = by (tx_end H (number_of
     parts end None gone first x = inr (after end (ended_there (heard_in H e.conn e.tenure)) gone first refl x)
     parts end (Some q) gone first x =
         let g = first_of H (number_of own) 0 (works H) e.call (ap (λ o. is_due o e.call) first ∙ x) in
-        inl (rows_way H e.conn e.tenure own e.call_no g.index e.call l lent_here g.hands (subst (λ i. is_due (closing H i) e.call ≡ true) (omega arith) g.some))
+        inl (rows_way H e.conn e.tenure own e.call_no g.index e.call l lent_here g.hands (subst (λ i. is_due (close_due H i) e.call ≡ true) (omega arith) g.some))
 
     here : (end : TxEnd) → is_due (ending_at H (number_of own) (home H (number_of own)) end (place H (home H (number_of own)))) e.call ≡ true
         → is_due (or_else (first_closing H (number_of own) 0 (works H)) (end_after H (went_bad (journal H e.conn)) end (heard_in H e.conn e.tenure))) e.call ≡ true
@@ -300,11 +300,11 @@ layer_way H e own l f kept d same other elsewhere due = by (is_begun H (number_o
     over_rows true gone x = clash (sym begin ∙ rows_begin_nothing H (number_of own) (over_some (rows_by H (number_of own)) gone))
     over_rows false gone x = absurd cc
 
-    closed : (b : Bool) → is_due (cond b (closing H (number_of own)) None) e.call ≡ true → TxWay H e.conn e.tenure own e.call_no e.call
+    closed : (b : Bool) → is_due (cond b (close_due H (number_of own)) None) e.call ≡ true → TxWay H e.conn e.tenure own e.call_no e.call
     closed true x = over_rows (are_over H (number_of own)) refl x
     closed false x = absurd cc
 
-    by : (b : Bool) → is_due (cond b (cond (tx_ender H (number_of own) == 0) (ending H (number_of own)) None) (cond (ender H (number_of own) == 0) (closing H (number_of own)) None)) e.call ≡ true → TxWay H e.conn e.tenure own e.call_no e.call
+    by : (b : Bool) → is_due (cond b (cond (tx_ender H (number_of own) == 0) (ending H (number_of own)) None) (cond (ender H (number_of own) == 0) (close_due H (number_of own)) None)) e.call ≡ true → TxWay H e.conn e.tenure own e.call_no e.call
     by true x = ended (tx_ender H (number_of own) == 0) x
     by false x = closed (ender H (number_of own) == 0) x
 

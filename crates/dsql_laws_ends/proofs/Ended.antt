@@ -29,7 +29,7 @@ use Rattle.dsql_laws_calls.specs.history.Readers.Unfinished.{is_unfinished, unfi
 use Rattle.dsql_laws_calls.specs.history.Rules.House.{has_no_chore, is_untidy}
 use Rattle.dsql_laws_calls.specs.history.Rules.Line.{due_for, is_used, tidying}
 use Rattle.dsql_laws_calls.specs.history.Rules.Ending.{ending}
-use Rattle.dsql_laws_calls.specs.history.Rules.Sent.{closing, line_of}
+use Rattle.dsql_laws_calls.specs.history.Rules.Sent.{close_due, line_of}
 use Rattle.dsql_laws_calls.specs.history.Rules.Stands.{has_to_reply, stand, is_waiting}
 use Rattle.dsql_laws_calls.specs.history.Legal.{Lawful, Legal}
 use Rattle.dsql_laws_calls.proofs.laws.AtRest.{rests_owing_nothing}
@@ -103,12 +103,12 @@ untidy H c t owner l is some = together (not (is_house owner)) (is_some (tidying
 
 closes_rows : (H : List Event) (n : ℕ) → is_begun H n ≡ false → over (rows_by H n) ≡ true → ender H n ≡ 0 → is_some (line_of H n wishes.Close) ≡ true → is_some (tidying H n) ≡ true
 closes_rows H n unbegun gone none line =
-    ap (λ (b : Bool). is_some (cond b (cond (tx_ender H n == 0) (ending H n) None) (cond (ender H n == 0) (closing H n) None))) unbegun
-    ∙ (ap (λ (b : Bool). is_some (cond b (closing H n) None)) (ap (λ k. k == 0) none) ∙ (ap (λ (b : Bool). is_some (cond b (line_of H n wishes.Close) None)) gone ∙ line))
+    ap (λ (b : Bool). is_some (cond b (cond (tx_ender H n == 0) (ending H n) None) (cond (ender H n == 0) (close_due H n) None))) unbegun
+    ∙ (ap (λ (b : Bool). is_some (cond b (close_due H n) None)) (ap (λ k. k == 0) none) ∙ (ap (λ (b : Bool). is_some (cond b (line_of H n wishes.Close) None)) gone ∙ line))
 
 ends_it : (H : List Event) (n : ℕ) → is_begun H n ≡ true → tx_ender H n ≡ 0 → is_some (ending H n) ≡ true → is_some (tidying H n) ≡ true
 ends_it H n begun none some =
-    ap (λ (b : Bool). is_some (cond b (cond (tx_ender H n == 0) (ending H n) None) (cond (ender H n == 0) (closing H n) None))) begun
+    ap (λ (b : Bool). is_some (cond b (cond (tx_ender H n == 0) (ending H n) None) (cond (ender H n == 0) (close_due H n) None))) begun
     ∙ (ap (λ (b : Bool). is_some (cond b (ending H n) None)) (ap (λ k. k == 0) none) ∙ some)
 
 none_lent : (H : List Event) (c t : ℕ) (owner : Owner) → Ends H → place H c ≡ Some (Lent t owner) → ⊥

@@ -6,7 +6,7 @@ use Rattle.std.specs.Prelude.{map}
 use Rattle.dsql_laws_calls.specs.driver.declared.call.DriverCall.{DriverCall}
 use Rattle.dsql_laws_calls.specs.driver.declared.call.DriverCall.TheVariants.{Next}
 use Rattle.dsql_laws_calls.specs.driver.declared.answer.DriverAnswer.{DriverAnswer}
-use Rattle.dsql_laws_calls.specs.numbered.Numbered.{changed as changed_at, thing_of, changed}
+use Rattle.dsql_laws_calls.specs.numbered.Numbered.{changed, thing_of}
 use Rattle.dsql_laws_calls.proofs.numbered.Numbers.{changes_one_number as changes_one_thing}
 use Rattle.dsql_laws_calls.specs.rows.declared.end.RowsEnd.TheVariants as ends
 use Rattle.dsql_laws_calls.specs.rows.declared.rows.Rows.{Rows}
@@ -150,7 +150,7 @@ ends_its_own H label by k was now = split (same_or_not k j)
     j : ℕ
     j = tx_maker (works H) label
 
-    unchanged : (b : Bool) → k ≢ j → thing_of k (cond b (transactions H) (changed_at (tx_ended_by by) j (transactions H))) ≡ tx_by H k
+    unchanged : (b : Bool) → k ≢ j → thing_of k (cond b (transactions H) (changed (tx_ended_by by) j (transactions H))) ≡ tx_by H k
     unchanged true apart = refl
     unchanged false apart = let l = changes_one_thing {X = Tx} in l.others (tx_ended_by by) j k (transactions H) apart
 

@@ -4,7 +4,7 @@ use Rattle.std.specs.Option.{option_map, option_or}
 use Rattle.dsql_laws_calls.specs.pool.declared.conn.Conn.{Conn}
 use Rattle.dsql_laws_calls.specs.pool.declared.conn.Place.{Place}
 use Rattle.dsql_laws_calls.specs.pool.declared.moves.Move.TheVariants.{OpenStart, Lend, Back, CloseStart, Gone, Fell}
-use Rattle.dsql_laws_calls.specs.pool.Changes.{back, changed, closing, gone, lent, opening, unwanted}
+use Rattle.dsql_laws_calls.specs.pool.Changes.{back, conn_changed, closing, gone, lent, opening, unwanted}
 use Rattle.dsql_laws_calls.specs.pool.Places.{conn_of, place_of}
 use Rattle.dsql_laws_calls.specs.pool.Pooled.{Pooled, next_number, place_at}
 use Rattle.dsql_laws_calls.specs.pool.Moved.{shut}
@@ -34,11 +34,11 @@ placed_or : (o p : Option Conn) → is_some (place_in o) ≡ true → is_some (p
 placed_or None p h = absurd cc
 placed_or (Some x) p h = refl
 
-changed_placed : (c d : ℕ) (f : Conn → Conn) (conns : List Conn) → KeepsNumber f → is_some (place_of c conns) ≡ true → is_some (place_of c (changed d f conns)) ≡ true
+changed_placed : (c d : ℕ) (f : Conn → Conn) (conns : List Conn) → KeepsNumber f → is_some (place_of c conns) ≡ true → is_some (place_of c (conn_changed d f conns)) ≡ true
 changed_placed c d f conns keeps h = by (same_or_not c d)
   where
-    by : (c ≡ d) ⊎ (c ≢ d) → is_some (place_of c (changed d f conns)) ≡ true
-    by (inl same) = ap (λ k. is_some (place_of c (changed k f conns))) (sym same) ∙ (ap (λ o. is_some (place_in o)) (found_changed c f keeps conns) ∙ still_placed f (conn_of c conns) h)
+    by : (c ≡ d) ⊎ (c ≢ d) → is_some (place_of c (conn_changed d f conns)) ≡ true
+    by (inl same) = ap (λ k. is_some (place_of c (conn_changed k f conns))) (sym same) ∙ (ap (λ o. is_some (place_in o)) (found_changed c f keeps conns) ∙ still_placed f (conn_of c conns) h)
     by (inr apart) = ap (λ o. is_some (place_in o)) (changed_off d c f conns keeps apart) ∙ h
 
 shut_placed : (c : ℕ) (p : Pooled) → is_some (place_at p c) ≡ true → is_some (place_at (shut p) c) ≡ true

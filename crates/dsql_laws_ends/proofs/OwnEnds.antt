@@ -35,7 +35,7 @@ use Rattle.dsql_laws_calls.specs.history.Readers.Transactions.{end_of, is_begun,
 use Rattle.dsql_laws_calls.specs.history.Readers.Works.{borrower, hands_out_in, scope, work, works}
 use Rattle.dsql_laws_calls.specs.history.Rules.Ending.{end_after, ended_by_call, ending, ending_at, ending_with, first_closing}
 use Rattle.dsql_laws_calls.specs.history.Rules.Line.{due_for, due_in, due_inside, is_due, is_due_at, is_used, may_come, parts, sends_in, tidying}
-use Rattle.dsql_laws_calls.specs.history.Rules.Sent.{closing, line_of, sent_for, wish}
+use Rattle.dsql_laws_calls.specs.history.Rules.Sent.{close_due, line_of, sent_for, wish}
 use Rattle.dsql_laws_calls.specs.history.Legal.{Lawful}
 use Rattle.dsql_laws_calls.proofs.Begun.{Turned, over_begun, turned}
 use Rattle.dsql_laws_calls.proofs.Coming.{sound}
@@ -65,7 +65,7 @@ end_stays H e k over = by (turned H e k (over_begun H k over))
 
 -- A Commit or Rollback that is due for a transaction is the one that ends it.
 
-closing_ends_none : (H : List Event) (n : ℕ) (q : DriverCall) → is_due (closing H n) q ≡ true → is_ending q ≡ false
+closing_ends_none : (H : List Event) (n : ℕ) (q : DriverCall) → is_due (close_due H n) q ≡ true → is_ending q ≡ false
 closing_ends_none H n q h = by (are_over H n) h
   where
     by : (b : Bool) → is_due (cond b (line_of H n wishes.Close) None) q ≡ true → is_ending q ≡ false
@@ -74,9 +74,9 @@ closing_ends_none H n q h = by (are_over H n) h
 
 first_ends_none : (H : List Event) (k n : ℕ) (ws : List Work) (q : DriverCall) → is_due (first_closing H k n ws) q ≡ true → is_ending q ≡ false
 first_ends_none H k n [] q h = absurd cc
-first_ends_none H k n (it ∷ ws) q h = by (first_ends_none H k (n + 1) ws q) (hands_out_in k it) (closing H n) refl h
+first_ends_none H k n (it ∷ ws) q h = by (first_ends_none H k (n + 1) ws q) (hands_out_in k it) (close_due H n) refl h
   where
-    by : (is_due (first_closing H k (n + 1) ws) q ≡ true → is_ending q ≡ false) → (b : Bool) (o : Option DriverCall) → closing H n ≡ o → is_due (or_else (cond b o None) (first_closing H k (n + 1) ws)) q ≡ true → is_ending q ≡ false
+    by : (is_due (first_closing H k (n + 1) ws) q ≡ true → is_ending q ≡ false) → (b : Bool) (o : Option DriverCall) → close_due H n ≡ o → is_due (or_else (cond b o None) (first_closing H k (n + 1) ws)) q ≡ true → is_ending q ≡ false
     by rest true (Some d) is x = closing_ends_none H n q (ap (λ o. is_due o q) is ∙ x)
     by rest true None is x = rest x
     by rest false o is x = rest x
@@ -168,7 +168,7 @@ end_now H e h ends = by (e.call_no == 0) refl d.due
     ended : is_due (ending H n) e.call ≡ true → tx_ender H n ≡ e.call_no → EndWay H e
     ended due ender = let x = end_due H n e.call due ends in record { owner = d.owner; lent = d.lent; end = x.end; is = x.is; due = x.due; ender = ender }
 
-    layer : (a b c : Bool) → (tx_ender H n == 0) ≡ b → (e.call_no == 0) ≡ true → is_due (cond a (cond b (ending H n) None) (cond c (closing H n) None)) e.call ≡ true → EndWay H e
+    layer : (a b c : Bool) → (tx_ender H n == 0) ≡ b → (e.call_no == 0) ≡ true → is_due (cond a (cond b (ending H n) None) (cond c (close_due H n) None)) e.call ≡ true → EndWay H e
     layer true true c none zero x = ended x (same_number (tx_ender H n) 0 none ∙ sym (same_number e.call_no 0 zero))
     layer true false c none zero x = absurd cc
     layer false b true none zero x = absurd (true_false (is_ending e.call) ends (closing_ends_none H n e.call x))

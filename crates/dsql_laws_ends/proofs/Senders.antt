@@ -31,7 +31,7 @@ use Rattle.dsql_laws_calls.specs.history.Readers.Works.{asks, is_fetch, scope, w
 use Rattle.dsql_laws_calls.specs.history.Rules.Ending.{ending}
 use Rattle.dsql_laws_calls.specs.history.Rules.Line.{due_for, due_in, is_used, rest, rest_with}
 use Rattle.dsql_laws_calls.specs.history.Rules.Sent.{line_of, sent_for, wish}
-use Rattle.dsql_laws_calls.specs.history.Rules.Settled.{goes_on_but, owes_nothing, uses_what_is_lent}
+use Rattle.dsql_laws_calls.specs.history.Rules.Settled.{calls_stand_but, owes_nothing, uses_what_is_lent}
 use Rattle.dsql_laws_calls.specs.history.Legal.{Allowed, Lawful}
 use Rattle.dsql_laws_calls.proofs.laws.Tried.{lends_to}
 use Rattle.dsql_laws_calls.proofs.Beginnings.{lent_once_begun}
@@ -120,8 +120,8 @@ replied_used : (H : List Event) (n : ℕ) (reply : Reply) (c t : ℕ) (owner : O
     → is_used H (number_of owner) ≡ true
 replied_used H n reply c t owner a is busy =
     let r = replies_now H n reply a in
-    let b = both (owes_nothing H) (uses_what_is_lent H && goes_on_but n H) r.settled in
-    let d = both (uses_what_is_lent H) (goes_on_but n H) b.1 in
+    let b = both (owes_nothing H) (uses_what_is_lent H && calls_stand_but n H) r.settled in
+    let d = both (uses_what_is_lent H) (calls_stand_but n H) b.1 in
     kept_so (is_used H (number_of owner)) (rests H (number_of owner)) (lent_used H c t owner d.0 is) busy
 
 -- When a call replies, it has made rows or begun a transaction if its connection is still lent.

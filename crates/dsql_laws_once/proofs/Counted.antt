@@ -12,7 +12,7 @@ use Rattle.dsql_laws_calls.specs.journal.Kinds.{number_of}
 use Rattle.dsql_laws_calls.specs.journal.Readers.{of_tenure}
 use Rattle.dsql_laws_calls.specs.pool.declared.conn.Place.TheVariants.{Lent}
 use Rattle.dsql_laws_calls.specs.works.Exchanges.{exchanges}
-use Rattle.dsql_laws_calls.specs.works.Line.{Asked, is_due, line_after}
+use Rattle.dsql_laws_calls.specs.works.Line.{Asked, is_due_in_line, line_after}
 use Rattle.dsql_laws_calls.proofs.laws_work.Rows.{same_or_not}
 use Rattle.dsql_laws_calls.proofs.laws_work.CallLines.{step, goes, is_before_end}
 use Rattle.dsql_laws_calls.proofs.laws_work.MadeLines.{MadeAt}
@@ -214,7 +214,7 @@ still_spent H e l some u one s =
         let asked = asked_by H e.call_no in
         never (is_before_row (step L))
         (fetching (caps H) (is_reset_due H e.conn) asked.text asked.params (aim_of (work H e.call_no)) wishes.Nothing L rows (one_aim (work H e.call_no) one) x.before (subst (λ q. goes (step L) q ≡ true) is x.next)
-        (subst (λ q. is_due (line_after (caps H) (is_reset_due H e.conn) asked wishes.Nothing L) q ≡ true) is u.due))
+        (subst (λ q. is_due_in_line (line_after (caps H) (is_reset_due H e.conn) asked wishes.Nothing L) q ≡ true) is u.due))
         past
 
 -- The fetch loses the row, or the call is spent.
@@ -249,7 +249,7 @@ fetched H e q l some u one o kept = by (is_bad e.answer) refl
         let x = u.sent in
         fetched_next (caps H) (is_reset_due H e.conn) (asked_by H n).text (asked_by H n).params (aim_of (work H n)) wishes.Nothing q o.earlier e.call (one_aim (work H n) one) o.opens
         (made_as (caps H) (asked_by H n) (heard_in H e.conn e.tenure) (q ∷ o.earlier) at.2 x.before)
-        (subst (λ L. is_due (line_after (caps H) (is_reset_due H e.conn) (asked_by H n) wishes.Nothing L) e.call ≡ true) at.2 u.due)
+        (subst (λ L. is_due_in_line (line_after (caps H) (is_reset_due H e.conn) (asked_by H n) wishes.Nothing L) e.call ≡ true) at.2 u.due)
 
     by : (b : Bool) → is_bad e.answer ≡ b → SpentRow (Heard e ∷ H) e.call_no
     by true bad =

@@ -8,7 +8,7 @@ use Rattle.dsql_laws_calls.specs.driver.declared.call.DriverCall.TheVariants.{Va
 use Rattle.dsql_laws_calls.specs.driver.declared.call.Input.TheVariants.{Text, Handle}
 use Rattle.dsql_laws_calls.specs.driver.declared.answer.DriverAnswer.{DriverAnswer}
 use Rattle.dsql_laws_calls.specs.driver.declared.answer.DriverAnswer.TheVariants.{Cursor, Skip, Bad}
-use Rattle.dsql_laws_calls.specs.driver.Kinds.{is_bad, is_over, given_cursor}
+use Rattle.dsql_laws_calls.specs.driver.Kinds.{is_bad, ends_cursor, given_cursor}
 use Rattle.dsql_laws_calls.specs.course.declared.course.Wish.{Wish}
 use Rattle.dsql_laws_calls.specs.course.declared.course.Wish.TheVariants as wishes
 use Rattle.dsql_laws_calls.specs.course.declared.call.Due.TheVariants as due
@@ -16,7 +16,7 @@ use Rattle.dsql_laws_calls.specs.course.Made.{Exchange}
 use Rattle.dsql_laws_calls.specs.journal.declared.entry.Entry.{Entry}
 use Rattle.dsql_laws_calls.specs.works.declared.work.Aim.{Aim}
 use Rattle.dsql_laws_calls.specs.works.declared.work.Aim.TheVariants as aims
-use Rattle.dsql_laws_calls.specs.works.Line.{body_after, line_after, is_due}
+use Rattle.dsql_laws_calls.specs.works.Line.{body_after, line_after, is_due_in_line}
 use Rattle.dsql_laws_calls.specs.works.Exchanges.{exchanges, step_of, with_exchange}
 use Rattle.dsql_laws_calls.proofs.laws_work.CallLines.{Step, HasRows, HasRead, WasRun, WasDone, step, step_after, read_after, goes, is_before_end, left_of}
 use Rattle.dsql_laws_calls.proofs.laws_work.MadeLines.{MadeAt, MadeRows, asking}
@@ -79,7 +79,7 @@ read_past _ over = refl
 
 pub fetched_past : (cursor : Option ℕ) (s : Step) (q : DriverCall) (a : DriverAnswer) → fetches_from cursor q ≡ true → is_before_row (step_after s q a) ≡ false
 fetched_past cursor s (Next rows) Bad h = refl
-fetched_past cursor s (Next rows) a h = read_past s (is_over a)
+fetched_past cursor s (Next rows) a h = read_past s (ends_cursor a)
 fetched_past cursor s q a h = absurd cc
 
 -- After a query that gave no cursor, no further `Prepare` or fetch is sent.
@@ -114,23 +114,23 @@ opened_query q a o = absurd cc
 
 -- A fetch from that cursor is next.
 
-of_next : (rows : ℕ) (q : DriverCall) → is_due (Some (Next rows)) q ≡ true → fetches_from (Some rows) q ≡ true
+of_next : (rows : ℕ) (q : DriverCall) → is_due_in_line (Some (Next rows)) q ≡ true → fetches_from (Some rows) q ≡ true
 of_next rows (Next other) d = d
 of_next rows q d = absurd cc
 
 opened_body : (can : Caps) (text : List ℕ) (params : List Param) (w : Wish) (own : Option ℕ) (rows : ℕ) (made : List Exchange) (q : DriverCall) → MadeRows can (asking text params aims.ReadOne) own rows false (due.Next rows) made
-    → is_due (body_after can false (asking text params aims.ReadOne) w made) q ≡ true → fetches_from (Some rows) q ≡ true
+    → is_due_in_line (body_after can false (asking text params aims.ReadOne) w made) q ≡ true → fetches_from (Some rows) q ≡ true
 opened_body can text params w own rows made q m d = of_next rows q (rw m.sends at d)
 
 opened_after : (can : Caps) (text : List ℕ) (params : List Param) (w : Wish) (s : Step) (p : DriverCall) (a : DriverAnswer) (made : List Exchange) (q : DriverCall) → opens_rows p a ≡ true
-    → MadeAt can (asking text params aims.ReadOne) (step_after s p a) (with_exchange (step_of p) a made) → is_due (body_after can false (asking text params aims.ReadOne) w (with_exchange (step_of p) a made)) q ≡ true
+    → MadeAt can (asking text params aims.ReadOne) (step_after s p a) (with_exchange (step_of p) a made) → is_due_in_line (body_after can false (asking text params aims.ReadOne) w (with_exchange (step_of p) a made)) q ≡ true
     → fetches_from (given_cursor a) q ≡ true
 opened_after can text params w s (Query (Text t) ps) (Cursor rows columns) made q o m d = opened_body can text params w None rows (with_exchange (step_of (Query (Text t) ps)) (Cursor rows columns) made) q m d
 opened_after can text params w s (Query (Handle h) ps) (Cursor rows columns) made q o m d = opened_body can text params w (Some h) rows (with_exchange (step_of (Query (Handle h) ps)) (Cursor rows columns) made) q m d
 opened_after can text params w s p a made q o m d = absurd cc
 
 pub fetched_next : (can : Caps) (reset : Bool) (text : List ℕ) (params : List Param) (aim : Aim) (w : Wish) (p : Entry) (earlier : List Entry) (q : DriverCall) → aim ≡ aims.ReadOne → opens_rows p.call p.answer ≡ true
-    → MadeAt can (asking text params aim) (step (p ∷ earlier)) (exchanges (p ∷ earlier)) → is_due (line_after can reset (asking text params aim) w (p ∷ earlier)) q ≡ true → fetches_from (given_cursor p.answer) q ≡ true
+    → MadeAt can (asking text params aim) (step (p ∷ earlier)) (exchanges (p ∷ earlier)) → is_due_in_line (line_after can reset (asking text params aim) w (p ∷ earlier)) q ≡ true → fetches_from (given_cursor p.answer) q ≡ true
 fetched_next can reset text params aims.ReadOne w p earlier q one o m d =
     let b = body_due can reset (asking text params aims.ReadOne) w p earlier q d in
     opened_after can text params w (step earlier) p.call p.answer (exchanges earlier) q o m b.1
@@ -139,14 +139,14 @@ fetched_next can reset text params aim w p earlier q one o m d = absurd cc
 -- No fetch follows after that.
 
 fetching_body : (can : Caps) (text : List ℕ) (params : List Param) (w : Wish) (s : Step) (made : List Exchange) (rows : ℕ) → MadeAt can (asking text params aims.ReadOne) s made → goes s (Next rows) ≡ true
-    → is_due (body_after can false (asking text params aims.ReadOne) w made) (Next rows) ≡ true → is_before_row s ≡ true
+    → is_due_in_line (body_after can false (asking text params aims.ReadOne) w made) (Next rows) ≡ true → is_before_row s ≡ true
 fetching_body can text params w (HasRows own cursor) made rows m g d = refl
 fetching_body can text params w (HasRead own cursor false) made rows m g d = let k = rw m.sends at d in absurd cc
 fetching_body can text params w (HasRead own cursor true) made rows m g d = absurd cc
 fetching_body can text params w _ made rows m g d = absurd cc
 
 pub fetching : (can : Caps) (reset : Bool) (text : List ℕ) (params : List Param) (aim : Aim) (w : Wish) (L : List Entry) (rows : ℕ) → aim ≡ aims.ReadOne → MadeAt can (asking text params aim) (step L) (exchanges L)
-    → goes (step L) (Next rows) ≡ true → is_due (line_after can reset (asking text params aim) w L) (Next rows) ≡ true → is_before_row (step L) ≡ true
+    → goes (step L) (Next rows) ≡ true → is_due_in_line (line_after can reset (asking text params aim) w L) (Next rows) ≡ true → is_before_row (step L) ≡ true
 fetching can reset text params aims.ReadOne w [] rows one m g d = absurd cc
 fetching can reset text params aims.ReadOne w (e ∷ earlier) rows one m g d =
     let b = body_due can reset (asking text params aims.ReadOne) w e earlier (Next rows) d in

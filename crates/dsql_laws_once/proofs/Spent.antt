@@ -14,8 +14,7 @@ use Rattle.dsql_laws_calls.specs.journal.Readers.{of_tenure}
 use Rattle.dsql_laws_calls.specs.pool.declared.conn.Place.TheVariants.{Lent}
 use Rattle.dsql_laws_calls.specs.pool.declared.moves.Move.TheVariants.{Lend}
 use Rattle.dsql_laws_calls.specs.works.Exchanges.{exchanges}
-use Rattle.dsql_laws_calls.specs.works.Line as plain
-use Rattle.dsql_laws_calls.specs.works.Line.{Asked}
+use Rattle.dsql_laws_calls.specs.works.Line.{Asked, is_due_in_line, line_after}
 use Rattle.dsql_laws_calls.proofs.laws_work.Rows.{same_or_not}
 use Rattle.dsql_laws_calls.proofs.laws_work.CallLines.{Step, step, step_after, goes, is_before_end}
 use Rattle.dsql_laws_calls.proofs.laws_work.MadeLines.{MadeAt}
@@ -174,7 +173,7 @@ sent_with H e own w l lent call due = record {
     made : MadeAt (caps H) (asked_by H (number_of own)) (step (heard_in H e.conn e.tenure)) (exchanges (heard_in H e.conn e.tenure))
     made = let s = sound H l.0 in let f = s.facts in f.made e.conn e.tenure own lent call
 
-    sent : plain.is_due (call_line H e.conn e.tenure own w) e.call ≡ true
+    sent : is_due_in_line (call_line H e.conn e.tenure own w) e.call ≡ true
     sent = plain_due (call_line H e.conn e.tenure own w) e.call (line_plain (caps H) (is_reset_due H e.conn) (asked_by H (number_of own)) w (heard_in H e.conn e.tenure)) due
 
 -- The driver call is one that the tenure's step permits, whoever sends it.
@@ -194,7 +193,7 @@ pub record OwnSent (H : List Event) (e : Entry) : Type 0 where
   pub number : number_of owner ≡ e.call_no
   pub call : is_call owner ≡ true
   pub unfinished : is_unfinished H e.call_no ≡ true
-  pub due : plain.is_due (plain.line_after (caps H) (is_reset_due H e.conn) (asked_by H e.call_no) wishes.Nothing (heard_in H e.conn e.tenure)) e.call ≡ true
+  pub due : is_due_in_line (line_after (caps H) (is_reset_due H e.conn) (asked_by H e.call_no) wishes.Nothing (heard_in H e.conn e.tenure)) e.call ≡ true
   pub sent : SentAt (caps H) (asked_by H e.call_no) wishes.Nothing (step (heard_in H e.conn e.tenure)) (exchanges (heard_in H e.conn e.tenure)) e.call e.answer
 
 pub own_sent : (H : List Event) (e : Entry) → Lawful (Heard e ∷ H) → e.call_no ≢ 0 → asks (work H e.call_no) ≡ true → begins (work H e.call_no) ≡ false → OwnSent H e
@@ -208,7 +207,7 @@ own_sent H e l some asking unbegun =
         let L = heard_in H e.conn e.tenure in
         let call = plain_call H e.conn e.tenure w.owner l.0 w.lent (ap (λ k. begins (work H k)) w.own ∙ unbegun) in
         let due : is_due (call_line H e.conn e.tenure w.owner wishes.Nothing) e.call ≡ true = ap (λ d. is_due d e.call) (sym (line_of_call H e.conn e.tenure w.owner wishes.Nothing l.0 w.lent call)) ∙ w.due in
-        let line : plain.is_due (call_line H e.conn e.tenure w.owner wishes.Nothing) e.call ≡ true =
+        let line : is_due_in_line (call_line H e.conn e.tenure w.owner wishes.Nothing) e.call ≡ true =
         plain_due (call_line H e.conn e.tenure w.owner wishes.Nothing) e.call (line_plain (caps H) (is_reset_due H e.conn) (asked_by H (number_of w.owner)) wishes.Nothing L) due
         in
         record {
@@ -217,7 +216,7 @@ own_sent H e l some asking unbegun =
           number = w.own;
           call = call;
           unfinished = w.unfinished;
-          due = subst (λ k. plain.is_due (plain.line_after (caps H) (is_reset_due H e.conn) (asked_by H k) wishes.Nothing (heard_in H e.conn e.tenure)) e.call ≡ true) w.own line;
+          due = subst (λ k. is_due_in_line (line_after (caps H) (is_reset_due H e.conn) (asked_by H k) wishes.Nothing (heard_in H e.conn e.tenure)) e.call ≡ true) w.own line;
           sent =
               subst (λ k. SentAt (caps H) (asked_by H k) wishes.Nothing (step (heard_in H e.conn e.tenure)) (exchanges (heard_in H e.conn e.tenure)) e.call e.answer) w.own
               (sent_with H e w.owner wishes.Nothing l w.lent call due);

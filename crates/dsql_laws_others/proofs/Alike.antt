@@ -39,7 +39,7 @@ use Rattle.dsql_laws_calls.specs.history.Readers.Transactions.{tx_by, end_of, tx
 use Rattle.dsql_laws_calls.specs.history.Readers.Pool.{pool, place, home}
 use Rattle.dsql_laws_calls.specs.history.Readers.Unfinished.{is_unfinished}
 use Rattle.dsql_laws_calls.specs.history.Readers.Works.{works, work, aim_of, scope, is_fetch, hands_out_in, borrower}
-use Rattle.dsql_laws_calls.specs.history.Rules.Sent.{is_reset_due, asked_by, line_with, line_at, line_of, closes, wish, sent_for, closing}
+use Rattle.dsql_laws_calls.specs.history.Rules.Sent.{is_reset_due, asked_by, line_with, line_at, line_of, closes, wish, sent_for, close_due}
 use Rattle.dsql_laws_calls.specs.history.Rules.Ending.{first_closing, ended_by_call, end_after, ending_at, ending_with, ending}
 use Rattle.dsql_laws_calls.specs.history.Rules.Line.{sends_in, due_inside, due_in, due_for, rest_with, is_used}
 use Rattle.dsql_laws_calls.specs.history.Rules.Settled.{is_in_use, is_kept, uses_what_is_lent}
@@ -203,11 +203,11 @@ line_asked H K n w c _ p = refl
 
 -- What ends a transaction.
 
-pub first_alike : (H K : List Event) (k n : ℕ) (ws : List Work) → ((j : ℕ) → closing K j ≡ closing H j) → first_closing K k n ws ≡ first_closing H k n ws
+pub first_alike : (H K : List Event) (k n : ℕ) (ws : List Work) → ((j : ℕ) → close_due K j ≡ close_due H j) → first_closing K k n ws ≡ first_closing H k n ws
 first_alike H K k n [] same = refl
 first_alike H K k n (it ∷ later) same =
     ap (λ d. or_else (cond (hands_out_in k it) d None) (first_closing K k (n + 1) later)) (same n)
-    ∙ ap (λ d. or_else (cond (hands_out_in k it) (closing H n) None) d) (first_alike H K k (n + 1) later same)
+    ∙ ap (λ d. or_else (cond (hands_out_in k it) (close_due H n) None) d) (first_alike H K k (n + 1) later same)
 
 -- Two histories that are alike in everything on which the end of transaction k on connection c depends.
 pub record SameEnd (H K : List Event) (k c : ℕ) : Type 0 where
@@ -236,7 +236,7 @@ ends_alike H K k txs homes places p = ap (λ o. ending_with K k (end_of o)) txs 
     with_end None = refl
     with_end (Some end) = ap (λ d. ending_at K k d end (place K d)) homes ∙ (ap (λ at. ending_at K k (home H k) end at) places ∙ ending_alike H K k (home H k) end (place H (home H k)) p)
 
-pub closing_alike : (H K : List Event) (j : ℕ) → rows_by K j ≡ rows_by H j → (are_over H j ≡ true → line_of K j wishes.Close ≡ line_of H j wishes.Close) → closing K j ≡ closing H j
+pub closing_alike : (H K : List Event) (j : ℕ) → rows_by K j ≡ rows_by H j → (are_over H j ≡ true → line_of K j wishes.Close ≡ line_of H j wishes.Close) → close_due K j ≡ close_due H j
 closing_alike H K j rows lines = ap (λ o. cond (over o) (line_of K j wishes.Close) None) rows ∙ by (are_over H j) lines
   where
     by : (b : Bool) → (b ≡ true → line_of K j wishes.Close ≡ line_of H j wishes.Close) → cond b (line_of K j wishes.Close) None ≡ cond b (line_of H j wishes.Close) None

@@ -28,7 +28,7 @@ use Rattle.dsql_laws_calls.specs.history.Readers.Calls.{decided, told_at_lending
 use Rattle.dsql_laws_calls.specs.history.Readers.Course.{db_end, or_end}
 use Rattle.dsql_laws_calls.specs.history.Readers.Owed.{owed}
 use Rattle.dsql_laws_calls.specs.history.Rules.Asking.{may_ask, ask_outcome, is_too_many}
-use Rattle.dsql_laws_calls.specs.history.Rules.Settled.{uses_what_is_lent, goes_on, goes_on_but, is_settled_but, owes_nothing}
+use Rattle.dsql_laws_calls.specs.history.Rules.Settled.{uses_what_is_lent, calls_stand, calls_stand_but, is_settled_but, owes_nothing}
 use Rattle.dsql_laws_calls.specs.history.Legal.{Lawful}
 use Rattle.dsql_laws_calls.specs.laws.Asked.{with_asked}
 use Rattle.dsql_laws_calls.proofs.laws.Asker.{asker}
@@ -93,14 +93,14 @@ no_memory false false true may it c is = cc
 no_memory false false false true it c is = cc
 no_memory false false false false it c is = cc
 
-pub asked_goes_on : (H : List Event) (n : ℕ) → Lawful H → owed H ≡ [] → may_ask H n ≡ true → is_settled_but n H ≡ true → is_too_many (ask_outcome H n) ≡ false → rests (with_asked n (ask_outcome H n) H) n ≡ false → goes_on (with_asked n (ask_outcome H n) H) ≡ true
+pub asked_goes_on : (H : List Event) (n : ℕ) → Lawful H → owed H ≡ [] → may_ask H n ≡ true → is_settled_but n H ≡ true → is_too_many (ask_outcome H n) ≡ false → rests (with_asked n (ask_outcome H n) H) n ≡ false → calls_stand (with_asked n (ask_outcome H n) H) ≡ true
 asked_goes_on H n l none may settled few restless = by (ask_outcome H n) refl few restless (asked_lawful H n l none may settled)
   where
     p : Pooled
     p = pool H
 
-    h : goes_on_but n H ≡ true
-    h = let a = both (owes_nothing H) (uses_what_is_lent H && goes_on_but n H) settled in let b = both (uses_what_is_lent H) (goes_on_but n H) a.1 in b.1
+    h : calls_stand_but n H ≡ true
+    h = let a = both (owes_nothing H) (uses_what_is_lent H && calls_stand_but n H) settled in let b = both (uses_what_is_lent H) (calls_stand_but n H) a.1 in b.1
 
     lent : Asked
     lent = asked.Lent (last p.idle) (next_tenure p (last p.idle))
@@ -108,7 +108,7 @@ asked_goes_on H n l none may settled few restless = by (ask_outcome H n) refl fe
     never : true ≡ false → ⊥
     never x = cc
 
-    by : (a : Result Asked AskFault) → ask_outcome H n ≡ a → is_too_many a ≡ false → rests (with_asked n a H) n ≡ false → Lawful (with_asked n a H) → goes_on (with_asked n a H) ≡ true
+    by : (a : Result Asked AskFault) → ask_outcome H n ≡ a → is_too_many a ≡ false → rests (with_asked n a H) n ≡ false → Lawful (with_asked n a H) → calls_stand (with_asked n a H) ≡ true
     by (Ok (asked.Lent c t)) is k r law = itself_lent H c t (owner_of H n) n law (λ x. absurd (never (sym x ∙ r))) h
     by (Ok (asked.Opening c)) is k r law = goes_on_opens H c n (silent H l) h
     by (Ok asked.Queued) is k r law = goes_on_waits H n h
@@ -120,7 +120,7 @@ pub asked_used : (H : List Event) (n : ℕ) → Lawful H → owed H ≡ [] → m
 asked_used H n l none may settled = by (ask_outcome H n) (asked_lawful H n l none may settled)
   where
     h : uses_what_is_lent H ≡ true
-    h = let a = both (owes_nothing H) (uses_what_is_lent H && goes_on_but n H) settled in let b = both (uses_what_is_lent H) (goes_on_but n H) a.1 in b.0
+    h = let a = both (owes_nothing H) (uses_what_is_lent H && calls_stand_but n H) settled in let b = both (uses_what_is_lent H) (calls_stand_but n H) a.1 in b.0
 
     by : (a : Result Asked AskFault) → Lawful (with_asked n a H) → uses_what_is_lent (with_asked n a H) ≡ true
     by (Ok (asked.Lent c t)) law = all_used H c t (owner_of H n) n law h

@@ -40,8 +40,8 @@ use Rattle.dsql_laws_calls.specs.history.Readers.Transactions.{tx_end}
 use Rattle.dsql_laws_calls.specs.history.Readers.Works.{works, work, work_of, scope, borrower}
 use Rattle.dsql_laws_calls.specs.history.Rules.Ending.{ending}
 use Rattle.dsql_laws_calls.specs.history.Rules.Line.{due_for, is_used}
-use Rattle.dsql_laws_calls.specs.history.Rules.Sent.{line_at, line_of, closing}
-use Rattle.dsql_laws_calls.specs.history.Rules.Settled.{is_kept, uses_what_is_lent, goes_on, goes_on_but}
+use Rattle.dsql_laws_calls.specs.history.Rules.Sent.{line_at, line_of, close_due}
+use Rattle.dsql_laws_calls.specs.history.Rules.Settled.{is_kept, uses_what_is_lent, calls_stand, calls_stand_but}
 use Rattle.dsql_laws_calls.specs.history.Rules.Stands.{is_settled_for, stand}
 use Rattle.dsql_laws_calls.specs.history.Legal.{Lawful}
 use Rattle.dsql_laws_calls.specs.laws.OwedMade.{with_moves}
@@ -86,7 +86,7 @@ other_line H client n j w l apart = shut_line H (Entered client n DbClose) j w (
 
 -- What ends transactions stays the same.
 
-closing_shut : (H : List Event) (client n j : ℕ) → Lawful (closes_it H client n) → closing (closes_it H client n) j ≡ closing H j
+closing_shut : (H : List Event) (client n j : ℕ) → Lawful (closes_it H client n) → close_due (closes_it H client n) j ≡ close_due H j
 closing_shut H client n j l = closing_alike H (closes_it H client n) j refl (λ over. other_line H client n j wishes.Close l (over_old H client n DbClose j l over))
 
 ending_shut : (H : List Event) (client n k : ℕ) → Lawful (closes_it H client n) → ending (closes_it H client n) k ≡ ending H k
@@ -95,8 +95,8 @@ ending_shut H client n k l = by (home_shut H (Entered client n DbClose) k (shuts
     K : List Event
     K = closes_it H client n
 
-    last : closing (closes_it H client n) (0 + length (works H)) ≡ None
-    last = let number : 0 + length (works H) ≡ n = let new = next_work H client n DbClose l in omega (arith, new) in ap (closing K) number ∙ closing_new H client n DbClose l
+    last : close_due (closes_it H client n) (0 + length (works H)) ≡ None
+    last = let number : 0 + length (works H) ≡ n = let new = next_work H client n DbClose l in omega (arith, new) in ap (close_due K) number ∙ closing_new H client n DbClose l
 
     by : HomeStays H (closes_it H client n) k ⊎ HomeUnlent H (closes_it H client n) k → ending (closes_it H client n) k ≡ ending H k
     by (inl s) =
@@ -227,12 +227,12 @@ stand_shut H client n m l some apart h = by (wants m (pool H)) refl
         (λ k. ap (λ d. is_some d) (other_due H client n m l apart) ∙ k)
         (λ k. absurd (true_false (n == m) k (other_number n m (λ same. apart (sym same))))) (settled_shut H client n m l apart is) h
 
-each_shut : (H : List Event) (client n : ℕ) → Lawful (closes_it H client n) → goes_on H ≡ true → goes_on_but n (closes_it H client n) ≡ true
+each_shut : (H : List Event) (client n : ℕ) → Lawful (closes_it H client n) → calls_stand H ≡ true → calls_stand_but n (closes_it H client n) ≡ true
 each_shut H client n l h = each_entered H client n DbClose (λ m u some apart. stand_shut H client n m l some apart) l.0 h
 
 -- The same after the closings that the entry makes due.
 
-pub closed_goes_on : (H : List Event) (client n : ℕ) → Lawful (closes_it H client n) → goes_on H ≡ true → goes_on_but n (with_moves (owed (closes_it H client n)) (closes_it H client n)) ≡ true
+pub closed_goes_on : (H : List Event) (client n : ℕ) → Lawful (closes_it H client n) → calls_stand H ≡ true → calls_stand_but n (with_moves (owed (closes_it H client n)) (closes_it H client n)) ≡ true
 closed_goes_on H client n l h =
     let K = closes_it H client n in
     let rest = before_event H (Entered client n DbClose) refl l.1 (rested H l.0) in

@@ -3,7 +3,7 @@
 use Rattle.std.proofs.Common.{◌≡◌, ℕ, true, List, refl}
 use Rattle.dsql_laws_calls.specs.history.declared.event.Event.{Event}
 use Rattle.dsql_laws_calls.specs.history.declared.event.Op.TheVariants.{RowsClose}
-use Rattle.dsql_laws_calls.specs.history.Rules.Settled.{goes_on, goes_on_but, uses_what_is_lent}
+use Rattle.dsql_laws_calls.specs.history.Rules.Settled.{calls_stand, calls_stand_but, uses_what_is_lent}
 use Rattle.dsql_laws_calls.specs.history.Legal.{Lawful}
 use Rattle.dsql_laws_others.proofs.Entered.{Enters, enters}
 use Rattle.dsql_laws_others.proofs.Somewhere.{each_on}
@@ -13,7 +13,7 @@ use Rattle.dsql_laws_others.proofs.StillUsed.{all_used_on}
 entered_close : (H : List Event) (client n : ℕ) (label : List ℕ) → Lawful (enters H client n (RowsClose label)) → Enters H client n (RowsClose label)
 entered_close H client n label l = record { lawful = l; pool = refl; end = refl }
 
-pub goes_on_closing : (H : List Event) (client n : ℕ) (label : List ℕ) → Lawful (enters H client n (RowsClose label)) → goes_on H ≡ true → goes_on_but n (enters H client n (RowsClose label)) ≡ true
+pub goes_on_closing : (H : List Event) (client n : ℕ) (label : List ℕ) → Lawful (enters H client n (RowsClose label)) → calls_stand H ≡ true → calls_stand_but n (enters H client n (RowsClose label)) ≡ true
 goes_on_closing H client n label l h = each_on H client n (RowsClose label) (entered_close H client n label l) h
 
 pub used_closing : (H : List Event) (client n : ℕ) (label : List ℕ) → Lawful (enters H client n (RowsClose label)) → uses_what_is_lent (enters H client n (RowsClose label)) ≡ uses_what_is_lent H

@@ -7,7 +7,7 @@ use Rattle.dsql_laws_calls.specs.pool.declared.conn.Conn.{Conn}
 use Rattle.dsql_laws_calls.specs.pool.declared.conn.Place.TheVariants.{Idle, Closing}
 use Rattle.dsql_laws_calls.specs.pool.declared.moves.CloseCause.{CloseCause}
 use Rattle.dsql_laws_calls.specs.pool.declared.moves.Move.TheVariants.{CloseStart}
-use Rattle.dsql_laws_calls.specs.pool.Changes.{changed, closing}
+use Rattle.dsql_laws_calls.specs.pool.Changes.{conn_changed, closing}
 use Rattle.dsql_laws_calls.specs.pool.Places.{conn_of, is_for, is_lent}
 use Rattle.dsql_laws_calls.proofs.pool.Found.{found_changed, found_beside}
 use Rattle.dsql_laws_calls.specs.history.Readers.Pool.{is_home, smallest, pool, place, home}
@@ -21,7 +21,7 @@ use Rattle.dsql_laws_calls.specs.history.Readers.Lines.{has_sent}
 use Rattle.dsql_laws_calls.specs.history.Readers.Unfinished.{unfinished}
 use Rattle.dsql_laws_calls.specs.history.Readers.Works.{borrower}
 use Rattle.dsql_laws_calls.specs.history.Rules.Line.{due_for}
-use Rattle.dsql_laws_calls.specs.history.Rules.Settled.{is_in_use, uses_what_is_lent, goes_on_but}
+use Rattle.dsql_laws_calls.specs.history.Rules.Settled.{is_in_use, uses_what_is_lent, calls_stand_but}
 use Rattle.dsql_laws_calls.specs.history.Rules.Stands.{is_settled_for, stand}
 use Rattle.dsql_laws_others.proofs.Alike.{in_use_alike, all_alike}
 use Rattle.dsql_laws_others.proofs.Untouched.{each_still, still_stands}
@@ -43,14 +43,14 @@ found_idle c conns (Some x) is at = record { it = x; is = is; idle = cc }
 
 -- A search that passes over idle and closing connections finds what it found before.
 same_find : (q : Conn → Bool) (c : ℕ) (conns : List Conn) (x : Conn) → ((y : Conn) → q (closing y) ≡ false) → ((y : Conn) → y.place ≡ Idle → q y ≡ false) → conn_of c conns ≡ Some x → x.place ≡ Idle
-    → find q (changed c closing conns) ≡ find q conns
+    → find q (conn_changed c closing conns) ≡ find q conns
 same_find q c [] x shut idle is at = refl
 same_find q c (y ∷ ys) x shut idle is at = by (λ k. same_find q c ys x shut idle k at) (y.number == c) is
   where
     here : y ≡ x → cond (q (closing y)) (Some (closing y)) (find q ys) ≡ cond (q y) (Some y) (find q ys)
     here same = ap (λ b. cond b (Some (closing y)) (find q ys)) (shut y) ∙ sym (ap (λ b. cond b (Some y) (find q ys)) (idle y (ap (λ (z : Conn). z.place) same ∙ at)))
 
-    by : (conn_of c ys ≡ Some x → find q (changed c closing ys) ≡ find q ys) → (b : Bool) → cond b (Some y) (conn_of c ys) ≡ Some x → find q (cond b (closing y ∷ ys) (y ∷ changed c closing ys)) ≡ find q (y ∷ ys)
+    by : (conn_of c ys ≡ Some x → find q (conn_changed c closing ys) ≡ find q ys) → (b : Bool) → cond b (Some y) (conn_of c ys) ≡ Some x → find q (cond b (closing y ∷ ys) (y ∷ conn_changed c closing ys)) ≡ find q (y ∷ ys)
     by rest true k = let same : y ≡ x = cc in here same
     by rest false k = ap (λ o. cond (q y) (Some y) o) (rest k)
 
@@ -100,7 +100,7 @@ due_closes H c why m at = due_moved H (CloseStart c why) m (home_closes H c why 
 -- Lent connections are in use as before.
 
 same_all : (q r : Conn → Bool) (c : ℕ) (conns : List Conn) (x : Conn) → ((y : Conn) → q y ≡ r y) → ((y : Conn) → q (closing y) ≡ true) → ((y : Conn) → y.place ≡ Idle → r y ≡ true) → conn_of c conns ≡ Some x
-    → x.place ≡ Idle → list_all q (changed c closing conns) ≡ list_all r conns
+    → x.place ≡ Idle → list_all q (conn_changed c closing conns) ≡ list_all r conns
 same_all q r c [] x same shut idle is at = refl
 same_all q r c (y ∷ ys) x same shut idle is at = by (λ k. same_all q r c ys x same shut idle k at) (y.number == c) is
   where
@@ -109,10 +109,10 @@ same_all q r c (y ∷ ys) x same shut idle is at = by (λ k. same_all q r c ys x
         ap (λ b. b && list_all q ys) (shut y)
         ∙ (all_alike q r ys same ∙ sym (ap (λ b. b && list_all r ys) (idle y (ap (λ (z : Conn). z.place) one ∙ at))))
 
-    by : (conn_of c ys ≡ Some x → list_all q (changed c closing ys) ≡ list_all r ys) → (b : Bool) → cond b (Some y) (conn_of c ys) ≡ Some x
-        → list_all q (cond b (closing y ∷ ys) (y ∷ changed c closing ys)) ≡ list_all r (y ∷ ys)
+    by : (conn_of c ys ≡ Some x → list_all q (conn_changed c closing ys) ≡ list_all r ys) → (b : Bool) → cond b (Some y) (conn_of c ys) ≡ Some x
+        → list_all q (cond b (closing y ∷ ys) (y ∷ conn_changed c closing ys)) ≡ list_all r (y ∷ ys)
     by rest true k = let one : y ≡ x = cc in here one
-    by rest false k = ap (λ b. b && list_all q (changed c closing ys)) (same y) ∙ ap (λ b. r y && b) (rest k)
+    by rest false k = ap (λ b. b && list_all q (conn_changed c closing ys)) (same y) ∙ ap (λ b. r y && b) (rest k)
 
 pub used_closes : (H : List Event) (c : ℕ) (why : CloseCause) → place H c ≡ Some Idle → uses_what_is_lent (closes_at H c why) ≡ uses_what_is_lent H
 used_closes H c why at =
@@ -147,5 +147,5 @@ stand_closes H c why m at h =
     in
     still_stands H K m refl (λ x. x) (λ x. ap (λ o. is_some o) opening ∙ x) (λ x. ap (λ d. is_some d) (due_closes H c why m at) ∙ x) (λ x. x) (settled_closes H c why m at) h
 
-pub goes_on_closes : (H : List Event) (c : ℕ) (why : CloseCause) (n : ℕ) → place H c ≡ Some Idle → goes_on_but n H ≡ true → goes_on_but n (closes_at H c why) ≡ true
+pub goes_on_closes : (H : List Event) (c : ℕ) (why : CloseCause) (n : ℕ) → place H c ≡ Some Idle → calls_stand_but n H ≡ true → calls_stand_but n (closes_at H c why) ≡ true
 goes_on_closes H c why n at h = each_still n (unfinished H) H (closes_at H c why) (λ m. stand_closes H c why m at) h

@@ -29,7 +29,7 @@ use Rattle.dsql_laws_calls.specs.history.declared.event.Event.{Event}
 use Rattle.dsql_laws_calls.specs.history.declared.event.Event.TheVariants.{Pool, Ticked, SetLimit}
 use Rattle.dsql_laws_calls.specs.history.Readers.Controls.{told}
 use Rattle.dsql_laws_calls.specs.history.Rules.Line.{due_for}
-use Rattle.dsql_laws_calls.specs.history.Rules.Settled.{uses_what_is_lent, goes_on_but}
+use Rattle.dsql_laws_calls.specs.history.Rules.Settled.{uses_what_is_lent, calls_stand_but}
 use Rattle.dsql_laws_calls.specs.history.Legal.{Lawful}
 use Rattle.dsql_laws_calls.specs.laws.OwedMade.{with_moves}
 use Rattle.dsql_laws_calls.proofs.laws.AtRest.{before_event, rested}
@@ -98,7 +98,7 @@ idle_place _ h = absurd cc
 pub record Untouched (H K : List Event) (n : ℕ) : Type 0 where
   pub due : (m : ℕ) → due_for K m ≡ due_for H m
   pub used : uses_what_is_lent K ≡ uses_what_is_lent H
-  pub others : goes_on_but n H ≡ true → goes_on_but n K ≡ true
+  pub others : calls_stand_but n H ≡ true → calls_stand_but n K ≡ true
 
 one_quiet : (H : List Event) (m : Move) (n : ℕ) → Silent H → is_quiet (pool H) m ≡ true → Untouched H (Pool m ∷ H) n
 one_quiet H (CloseStart c why) n s h =
@@ -136,5 +136,5 @@ control_due H control m l = let u = control_untouched H control 0 l in u.due m �
 pub control_used : (H : List Event) (control : Control) → Lawful (told control ∷ H) → uses_what_is_lent (with_moves (owed (told control ∷ H)) (told control ∷ H)) ≡ uses_what_is_lent H
 control_used H control l = let u = control_untouched H control 0 l in u.used ∙ used_control H control
 
-pub control_others : (H : List Event) (control : Control) (n : ℕ) → Lawful (told control ∷ H) → goes_on_but n H ≡ true → goes_on_but n (with_moves (owed (told control ∷ H)) (told control ∷ H)) ≡ true
+pub control_others : (H : List Event) (control : Control) (n : ℕ) → Lawful (told control ∷ H) → calls_stand_but n H ≡ true → calls_stand_but n (with_moves (owed (told control ∷ H)) (told control ∷ H)) ≡ true
 control_others H control n l h = let u = control_untouched H control n l in u.others (goes_on_control H control n h)

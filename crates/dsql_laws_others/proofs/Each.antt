@@ -17,7 +17,7 @@ use Rattle.dsql_laws_calls.specs.history.Readers.Calls.{told_by_tries, told_in, 
 use Rattle.dsql_laws_calls.specs.history.Readers.HandedOut.{are_over}
 use Rattle.dsql_laws_calls.specs.history.Readers.Tries.{tries}
 use Rattle.dsql_laws_calls.specs.history.Readers.Unfinished.{unfinished, is_unfinished}
-use Rattle.dsql_laws_calls.specs.history.Rules.Settled.{goes_on, goes_on_but}
+use Rattle.dsql_laws_calls.specs.history.Rules.Settled.{calls_stand, calls_stand_but}
 use Rattle.dsql_laws_calls.specs.history.Rules.Stands.{stand}
 use Rattle.dsql_laws_calls.specs.history.Legal.{Lawful}
 use Rattle.dsql_laws_calls.proofs.laws.Numbered.{unfinished_from_one}
@@ -47,8 +47,8 @@ told_each H K m it tried inner over h = by it h
     by (HandOut (Tx i) label) k = inner (HandOut (Tx i) label) i k
 
 -- If each other call keeps standing somewhere, all calls except the new one stand somewhere after the entry.
-pub each_entered : (H : List Event) (client n : ℕ) (op : Op) → ((m : ℕ) → is_unfinished H m ≡ true → m ≢ 0 → m ≢ n → is_some (stand H m) ≡ true → is_some (stand (Entered client n op ∷ H) m) ≡ true) → Lawful H → goes_on H ≡ true
-    → goes_on_but n (Entered client n op ∷ H) ≡ true
+pub each_entered : (H : List Event) (client n : ℕ) (op : Op) → ((m : ℕ) → is_unfinished H m ≡ true → m ≢ 0 → m ≢ n → is_some (stand H m) ≡ true → is_some (stand (Entered client n op ∷ H) m) ≡ true) → Lawful H → calls_stand H ≡ true
+    → calls_stand_but n (Entered client n op ∷ H) ≡ true
 each_entered H client n op stays l h =
     list_all-append (λ m. (m == n) || is_some (stand K m)) (unfinished H) (n ∷ [])
     ∙ together (list_all (λ m. (m == n) || is_some (stand K m)) (unfinished H)) (((n == n) || is_some (stand K n)) && true)

@@ -26,7 +26,7 @@ use Rattle.dsql_laws_calls.specs.history.Readers.Transactions.{tx_by, end_of, tx
 use Rattle.dsql_laws_calls.specs.history.Readers.Works.{works, work, scope, hands_out_in}
 use Rattle.dsql_laws_calls.specs.history.Rules.Ending.{ending}
 use Rattle.dsql_laws_calls.specs.history.Rules.Line.{rest_with, rest, is_used}
-use Rattle.dsql_laws_calls.specs.history.Rules.Sent.{line_of, closing}
+use Rattle.dsql_laws_calls.specs.history.Rules.Sent.{line_of, close_due}
 use Rattle.dsql_laws_calls.specs.history.Rules.Settled.{is_kept, uses_what_is_lent}
 use Rattle.dsql_laws_calls.specs.history.Legal.{Lawful}
 use Rattle.dsql_laws_calls.specs.laws.OwedMade.{with_moves}
@@ -74,7 +74,7 @@ over_tx H k gone = elim (ended_tx tx_ends.EndOfRun (tx_by H k) (tx_by (Ended ∷
     none true = refl
     none false = refl
 
-closing_end : (H : List Event) (k j : ℕ) → Lawful (Ended ∷ H) → is_over H k ≡ true → hands_out_in k (work H j) ≡ true → closing (Ended ∷ H) j ≡ closing H j
+closing_end : (H : List Event) (k j : ℕ) → Lawful (Ended ∷ H) → is_over H k ≡ true → hands_out_in k (work H j) ≡ true → close_due (Ended ∷ H) j ≡ close_due H j
 closing_end H k j l gone hands = closing_alike H (Ended ∷ H) j (rows (rows_turn H j)) (λ over. same_line H j wishes.Close l)
   where
     rows : Turns (rows_by H j) (rows_by (Ended ∷ H) j) → rows_by (Ended ∷ H) j ≡ rows_by H j
@@ -91,7 +91,7 @@ ending_end H k l gone = by (home_shut H Ended k (ends_it H l))
     by (inl s) =
         ends_alike H K k (over_tx H k gone) s.homes s.places
         (record {
-          first = first_same H K k 0 (works H) (λ j hands. let number : 0 + j ≡ j = omega arith in subst (λ i. closing K i ≡ closing H i) (sym number) (closing_end H k j l gone hands));
+          first = first_same H K k 0 (works H) (λ j hands. let number : 0 + j ≡ j = omega arith in subst (λ i. close_due K i ≡ close_due H i) (sym number) (closing_end H k j l gone hands));
           can = refl;
           heard = refl;
         })

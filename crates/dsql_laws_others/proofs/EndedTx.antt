@@ -16,7 +16,7 @@ use Rattle.dsql_laws_calls.specs.history.declared.work.Work.{Work}
 use Rattle.dsql_laws_calls.specs.history.declared.work.Work.TheVariants.{HandOut}
 use Rattle.dsql_laws_calls.specs.history.Readers.Pool.{place}
 use Rattle.dsql_laws_calls.specs.history.Readers.Works.{works, work, asks, hands_out_in, tx_maker}
-use Rattle.dsql_laws_calls.specs.history.Rules.Settled.{goes_on, goes_on_but, uses_what_is_lent}
+use Rattle.dsql_laws_calls.specs.history.Rules.Settled.{calls_stand, calls_stand_but, uses_what_is_lent}
 use Rattle.dsql_laws_calls.specs.history.Legal.{Lawful}
 use Rattle.dsql_laws_calls.proofs.Owners.{lent_asks}
 use Rattle.dsql_laws_others.specs.Ends.{ends_transaction}
@@ -30,7 +30,7 @@ entered_end H client n (ops.Commit tx) l h = record { lawful = l; pool = refl; e
 entered_end H client n (ops.Rollback tx) l h = record { lawful = l; pool = refl; end = refl }
 entered_end H client n op l h = absurd cc
 
-pub each_after_end : (H : List Event) (client n : ℕ) (op : Op) → Lawful (enters H client n op) → ends_transaction op ≡ true → goes_on H ≡ true → goes_on_but n (enters H client n op) ≡ true
+pub each_after_end : (H : List Event) (client n : ℕ) (op : Op) → Lawful (enters H client n op) → ends_transaction op ≡ true → calls_stand H ≡ true → calls_stand_but n (enters H client n op) ≡ true
 each_after_end H client n op l ends h = each_on H client n op (entered_end H client n op l ends) h
 
 -- A call that is lent a connection hands out no rows in a transaction.

@@ -23,7 +23,7 @@ use Rattle.dsql_laws_calls.specs.history.Readers.Owed.{owed}
 use Rattle.dsql_laws_calls.specs.history.Readers.Unfinished.{unfinished}
 use Rattle.dsql_laws_calls.specs.history.Rules.House.{has_no_chore}
 use Rattle.dsql_laws_calls.specs.history.Rules.Line.{due_for}
-use Rattle.dsql_laws_calls.specs.history.Rules.Settled.{goes_on}
+use Rattle.dsql_laws_calls.specs.history.Rules.Settled.{calls_stand}
 use Rattle.dsql_laws_calls.specs.history.Legal.{Lawful}
 use Rattle.dsql_laws_calls.specs.laws.OwedMade.{with_moves}
 use Rattle.dsql_laws_calls.proofs.laws.AtRest.{before_event, rested}
@@ -51,12 +51,12 @@ told_of_end H l m h = by (m == 0) refl
     by true is = refl
     by false is = ap (λ s. is_some s) (left_waiting_replies H m l (apart is) wanting)
 
-goes_on_ended : (H : List Event) → Lawful (Ended ∷ H) → goes_on (Ended ∷ H) ≡ true
+goes_on_ended : (H : List Event) → Lawful (Ended ∷ H) → calls_stand (Ended ∷ H) ≡ true
 goes_on_ended H l =
     let b = both (list_all (λ m. is_waiting (stand H m)) (unfinished H)) (has_no_chore H) (quiet_at_end H l.1) in
     all_within (λ m. is_waiting (stand H m)) (λ m. (m == 0) || is_some (stand (Ended ∷ H) m)) (unfinished H) (λ m u. told_of_end H l m) b.0
 
-pub all_told_of_end : (H : List Event) → Lawful (Ended ∷ H) → goes_on (with_moves (owed (Ended ∷ H)) (Ended ∷ H)) ≡ true
+pub all_told_of_end : (H : List Event) → Lawful (Ended ∷ H) → calls_stand (with_moves (owed (Ended ∷ H)) (Ended ∷ H)) ≡ true
 all_told_of_end H l =
     let rest = before_event H Ended refl l.1 (rested H l.0) in
     let u = all_quiet (Ended ∷ H) (owed (Ended ∷ H)) 0 (silent (Ended ∷ H) l) (closed_quiet (pool H) rest.placed) in

@@ -29,7 +29,7 @@ use Rattle.dsql_laws_calls.specs.history.Readers.Unfinished.{is_unfinished}
 use Rattle.dsql_laws_calls.specs.history.Readers.Works.{works, work, work_of, scope, is_fetch, hands_out_in}
 use Rattle.dsql_laws_calls.specs.history.Rules.Ending.{first_closing, ending}
 use Rattle.dsql_laws_calls.specs.history.Rules.Line.{sends_in, due_inside, due_in, due_for}
-use Rattle.dsql_laws_calls.specs.history.Rules.Sent.{line_of, closes, wish, sent_for, closing}
+use Rattle.dsql_laws_calls.specs.history.Rules.Sent.{line_of, closes, wish, sent_for, close_due}
 use Rattle.dsql_laws_calls.specs.history.Legal.{Lawful}
 use Rattle.dsql_laws_calls.proofs.laws.Numbered.{unfinished_from_one}
 use Rattle.dsql_laws_calls.proofs.AtEnd.{no_work_yet}
@@ -62,16 +62,16 @@ enters H client n op = Entered client n op ∷ H
 abbrev home_in : ℕ → Pooled → ℕ
 home_in n p = or_none (smallest (is_home n) p)
 
-pub first_same : (H K : List Event) (k n : ℕ) (ws : List Work) → ((j : ℕ) → hands_out_in k (get_or ws j Look) ≡ true → closing K (n + j) ≡ closing H (n + j)) → first_closing K k n ws ≡ first_closing H k n ws
+pub first_same : (H K : List Event) (k n : ℕ) (ws : List Work) → ((j : ℕ) → hands_out_in k (get_or ws j Look) ≡ true → close_due K (n + j) ≡ close_due H (n + j)) → first_closing K k n ws ≡ first_closing H k n ws
 first_same H K k n [] same = refl
 first_same H K k n (it ∷ ws) same =
     let number : n + 0 ≡ n = omega arith in
     ap (λ d. or_else d (first_closing K k (n + 1) ws)) (here (hands_out_in k it) (same 0) number)
-    ∙ ap (or_else (cond (hands_out_in k it) (closing H n) None))
-    (first_same H K k (n + 1) ws (λ j hands. let number : n + suc j ≡ n + 1 + j = omega arith in subst (λ i. closing K i ≡ closing H i) number (same (suc j) hands)))
+    ∙ ap (or_else (cond (hands_out_in k it) (close_due H n) None))
+    (first_same H K k (n + 1) ws (λ j hands. let number : n + suc j ≡ n + 1 + j = omega arith in subst (λ i. close_due K i ≡ close_due H i) number (same (suc j) hands)))
   where
-    here : (b : Bool) → (b ≡ true → closing K (n + 0) ≡ closing H (n + 0)) → n + 0 ≡ n → cond b (closing K n) None ≡ cond b (closing H n) None
-    here true so number = subst (λ i. closing K i ≡ closing H i) number (so refl)
+    here : (b : Bool) → (b ≡ true → close_due K (n + 0) ≡ close_due H (n + 0)) → n + 0 ≡ n → cond b (close_due K n) None ≡ cond b (close_due H n) None
+    here true so number = subst (λ i. close_due K i ≡ close_due H i) number (so refl)
     here false so number = refl
 
 pub no_rows_yet : (H : List Event) (client n : ℕ) (op : Op) → Lawful (enters H client n op) → is_some (rows_by H n) ≡ true → ⊥
@@ -81,7 +81,7 @@ no_rows_yet H client n op l some =
     let clash : false ≡ true = sym (ap hands_out looks) ∙ rows_hand_out H n some in
     cc
 
-pub closing_new : (H : List Event) (client n : ℕ) (op : Op) → Lawful (enters H client n op) → closing (enters H client n op) n ≡ None
+pub closing_new : (H : List Event) (client n : ℕ) (op : Op) → Lawful (enters H client n op) → close_due (enters H client n op) n ≡ None
 closing_new H client n op l = by (are_over (enters H client n op) n) refl
   where
     never : Turns (rows_by H n) (rows_by (enters H client n op) n) → are_over (enters H client n op) n ≡ true → ⊥
@@ -98,7 +98,7 @@ ended_same H client n op k gone = elim (tx_turn H client n op k) [
   | inr w ↦ let b = both (is_begun H k) (not (is_over H k)) w.0 in let clash : false ≡ true = sym (ap not gone) ∙ b.1 in absurd cc
 ]
 
-closing_same : (H : List Event) (client n : ℕ) (op : Op) (k j : ℕ) → Enters H client n op → is_over H k ≡ true → hands_out_in k (work H j) ≡ true → closing (enters H client n op) j ≡ closing H j
+closing_same : (H : List Event) (client n : ℕ) (op : Op) (k j : ℕ) → Enters H client n op → is_over H k ≡ true → hands_out_in k (work H j) ≡ true → close_due (enters H client n op) j ≡ close_due H j
 closing_same H client n op k j x gone hands =
     let l = x.lawful in
     closing_alike H (enters H client n op) j (rows (rows_turn H client n op j)) (λ over. other_line H client n op j wishes.Close l (over_old H client n op j l over) x.pool)
@@ -115,10 +115,10 @@ pub ending_same : (H : List Event) (client n : ℕ) (op : Op) (k : ℕ) → Ente
 ending_same H client n op k x gone =
     let l = x.lawful in
     let K = enters H client n op in
-    let last : closing K (0 + length (works H)) ≡ None = let number : 0 + length (works H) ≡ n = let new = next_work H client n op l in omega (arith, new) in ap (closing K) number ∙ closing_new H client n op l in
+    let last : close_due K (0 + length (works H)) ≡ None = let number : 0 + length (works H) ≡ n = let new = next_work H client n op l in omega (arith, new) in ap (close_due K) number ∙ closing_new H client n op l in
     ends_alike H K k (ended_same H client n op k gone) (ap (home_in k) x.pool) (ap (λ p. place_at p (home H k)) x.pool)
     (record {
-      first = first_push K k 0 (works H) (work_of (works H) op) last ∙ first_same H K k 0 (works H) (λ j hands. let number : 0 + j ≡ j = omega arith in subst (λ i. closing K i ≡ closing H i) (sym number) (closing_same H client n op k j x gone hands));
+      first = first_push K k 0 (works H) (work_of (works H) op) last ∙ first_same H K k 0 (works H) (λ j hands. let number : 0 + j ≡ j = omega arith in subst (λ i. close_due K i ≡ close_due H i) (sym number) (closing_same H client n op k j x gone hands));
       can = refl;
       heard = refl;
     })

@@ -37,7 +37,7 @@ use Rattle.dsql_laws_calls.specs.history.declared.reply.Reply.TheVariants.{DbClo
 use Rattle.dsql_laws_calls.specs.history.declared.work.Scope.{Scope}
 use Rattle.dsql_laws_calls.specs.history.declared.work.Scope.TheVariants.{Db, Tx}
 use Rattle.dsql_laws_calls.specs.history.declared.work.Work.{Work}
-use Rattle.dsql_laws_calls.specs.history.declared.work.Work.TheVariants.{Execute, ReadOne, HandOut, Begin, Ping, Fetch, Close, Look}
+use Rattle.dsql_laws_calls.specs.history.declared.work.Work.TheVariants.{Execute, ReadOne, HandOut, Begin, Ping, Fetch, Look}
 use Rattle.dsql_laws_calls.specs.history.Readers.Course.{caps, db_end}
 use Rattle.dsql_laws_calls.specs.history.Readers.Calls.{call_record, decided, has_begun_to_send, done_with, told_by_tries, told_in, told_of_work, told_by_others, last_told, asks_nothing, rests, rests_with}
 use Rattle.dsql_laws_calls.specs.history.Readers.Journals.{journal}
@@ -47,8 +47,8 @@ use Rattle.dsql_laws_calls.specs.history.Readers.Unfinished.{unfinished, is_unfi
 use Rattle.dsql_laws_calls.specs.history.Readers.Works.{works, work, work_of, aim_of, scope, hands_out_in, borrower}
 use Rattle.dsql_laws_calls.specs.history.Rules.Ending.{first_closing, ending}
 use Rattle.dsql_laws_calls.specs.history.Rules.Line.{due_for, is_used}
-use Rattle.dsql_laws_calls.specs.history.Rules.Sent.{line_at, line_of, closing}
-use Rattle.dsql_laws_calls.specs.history.Rules.Settled.{is_in_use, is_kept, uses_what_is_lent, goes_on_but}
+use Rattle.dsql_laws_calls.specs.history.Rules.Sent.{line_at, line_of, close_due}
+use Rattle.dsql_laws_calls.specs.history.Rules.Settled.{is_in_use, is_kept, uses_what_is_lent, calls_stand_but}
 use Rattle.dsql_laws_calls.specs.history.Rules.Stands.{is_own_step, is_settled_for, stand}
 use Rattle.dsql_laws_calls.specs.history.Legal.{Lawful}
 use Rattle.dsql_laws_callers.proofs.Works.{RefersWithin, refers_within, borrower_stays}
@@ -153,28 +153,28 @@ over_old H client n op j l h is =
 abbrev first_none : Bool → Option DriverCall
 first_none b = or_else (cond b None None) None
 
-pub first_push : (H : List Event) (k n : ℕ) (ws : List Work) (it : Work) → closing H (n + length ws) ≡ None → first_closing H k n (ws ++ it ∷ []) ≡ first_closing H k n ws
+pub first_push : (H : List Event) (k n : ℕ) (ws : List Work) (it : Work) → close_due H (n + length ws) ≡ None → first_closing H k n (ws ++ it ∷ []) ≡ first_closing H k n ws
 first_push H k n [] it none =
     let same : n + 0 ≡ n = omega arith in
-    ap (λ d. or_else (cond (hands_out_in k it) d None) None) (sym (ap (closing H) same) ∙ none) ∙ nothing (hands_out_in k it)
+    ap (λ d. or_else (cond (hands_out_in k it) d None) None) (sym (ap (close_due H) same) ∙ none) ∙ nothing (hands_out_in k it)
   where
     nothing : (b : Bool) → first_none b ≡ None
     nothing true = refl
     nothing false = refl
 first_push H k n (v ∷ ws) it none =
     let same : n + 1 + length ws ≡ n + length (v ∷ ws) = omega arith in
-    ap (or_else (cond (hands_out_in k v) (closing H n) None)) (first_push H k (n + 1) ws it (ap (closing H) same ∙ none))
+    ap (or_else (cond (hands_out_in k v) (close_due H n) None)) (first_push H k (n + 1) ws it (ap (close_due H) same ∙ none))
 
-entered_closing : (H : List Event) (client n : ℕ) (op : Op) (j : ℕ) → Lawful (Entered client n op ∷ H) → Leaves H (Entered client n op ∷ H) → closing (Entered client n op ∷ H) j ≡ closing H j
+entered_closing : (H : List Event) (client n : ℕ) (op : Op) (j : ℕ) → Lawful (Entered client n op ∷ H) → Leaves H (Entered client n op ∷ H) → close_due (Entered client n op ∷ H) j ≡ close_due H j
 entered_closing H client n op j l k =
     closing_alike H (Entered client n op ∷ H) j (ap (rows_of j) k.rows) (λ over. other_line H client n op j wishes.Close l (over_old H client n op j l over) k.pool)
 
 entered_ends : (H : List Event) (client n : ℕ) (op : Op) (j : ℕ) → Lawful (Entered client n op ∷ H) → Leaves H (Entered client n op ∷ H) → ending (Entered client n op ∷ H) j ≡ ending H j
 entered_ends H client n op j l k =
     let K = Entered client n op ∷ H in
-    let last : closing K (0 + length (works H)) ≡ None =
+    let last : close_due K (0 + length (works H)) ≡ None =
     let number : 0 + length (works H) ≡ n = let new = next_work H client n op l in omega (arith, new) in
-    ap (closing K) number ∙ (entered_closing H client n op n l k ∙ by (are_over H n) refl)
+    ap (close_due K) number ∙ (entered_closing H client n op n l k ∙ by (are_over H n) refl)
     in
     ends_alike H K j (ap (thing_of j) k.txs) (ap (home_in j) k.pool) (ap (λ p. place_at p (home H j)) k.pool)
     (record {
@@ -293,7 +293,7 @@ stand_entered H client n op m l plain apart h =
     never : false ≡ true → ⊥
     never x = cc
 
-pub goes_on_entered : (H : List Event) (client n : ℕ) (op : Op) → Lawful (Entered client n op ∷ H) → is_plain op ≡ true → goes_on_but n H ≡ true → goes_on_but n (Entered client n op ∷ H) ≡ true
+pub goes_on_entered : (H : List Event) (client n : ℕ) (op : Op) → Lawful (Entered client n op ∷ H) → is_plain op ≡ true → calls_stand_but n H ≡ true → calls_stand_but n (Entered client n op ∷ H) ≡ true
 goes_on_entered H client n op l plain h =
     let K = Entered client n op ∷ H in
     list_all-append (λ m. (m == n) || is_some (stand K m)) (unfinished H) (n ∷ [])

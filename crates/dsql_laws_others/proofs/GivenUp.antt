@@ -50,7 +50,7 @@ use Rattle.dsql_laws_calls.specs.history.Rules.Causes.{goes_in_turn}
 use Rattle.dsql_laws_calls.specs.history.Rules.Ending.{ending}
 use Rattle.dsql_laws_calls.specs.history.Rules.Line.{due_in, due_for, rest_with, is_used}
 use Rattle.dsql_laws_calls.specs.history.Rules.Sent.{line_of}
-use Rattle.dsql_laws_calls.specs.history.Rules.Settled.{owes_nothing, uses_what_is_lent, goes_on_but, is_settled_but}
+use Rattle.dsql_laws_calls.specs.history.Rules.Settled.{owes_nothing, uses_what_is_lent, calls_stand_but, is_settled_but}
 use Rattle.dsql_laws_calls.specs.history.Legal.{Lawful}
 use Rattle.dsql_laws_calls.specs.laws.Leaving.{MayLeave}
 use Rattle.dsql_laws_calls.specs.laws.OwedMade.{with_moves}
@@ -203,9 +203,9 @@ pub moves_add : (ms : List Move) (H : List Event) → length (with_moves ms H) �
 moves_add [] H = omega arith
 moves_add (m ∷ ms) H = let rest = moves_add ms (Pool m ∷ H) in omega (arith, rest)
 
-pub settled_from : (G : List Event) (n : ℕ) → owed G ≡ [] → uses_what_is_lent G ≡ true → goes_on_but n G ≡ true → is_settled_but n G ≡ true
+pub settled_from : (G : List Event) (n : ℕ) → owed G ≡ [] → uses_what_is_lent G ≡ true → calls_stand_but n G ≡ true → is_settled_but n G ≡ true
 settled_from G n none used somewhere =
-    together (owes_nothing G) (uses_what_is_lent G && goes_on_but n G) (ap is_empty none) (together (uses_what_is_lent G) (goes_on_but n G) used somewhere)
+    together (owes_nothing G) (uses_what_is_lent G && calls_stand_but n G) (ap is_empty none) (together (uses_what_is_lent G) (calls_stand_but n G) used somewhere)
 
 none_with : (G : List Event) (n : ℕ) → smallest (is_home n) (pool G) ≡ None → rests_with G n ≡ None
 none_with G n none = ap (λ o. cond (rests G n) o None) none ∙ by (rests G n)
@@ -220,8 +220,8 @@ may_give_up : (H : List Event) (c t : ℕ) (own : Owner) → Lawful H → number
     → rests H (number_of own) ≡ true → place H c ≡ Some (Lent t own) → MayGiveUp H (number_of own) c
 may_give_up H c t own l some settled u silent rested at =
     let n = number_of own in
-    let b = both (owes_nothing H) (uses_what_is_lent H && goes_on_but n H) settled in
-    let d = both (uses_what_is_lent H) (goes_on_but n H) b.1 in
+    let b = both (owes_nothing H) (uses_what_is_lent H && calls_stand_but n H) settled in
+    let d = both (uses_what_is_lent H) (calls_stand_but n H) b.1 in
     let r = rests_pinging H n rested in
     let own_is = owner_is_of H c t own l at in
     let heard = only_resets H c t own l at rested in

@@ -13,7 +13,7 @@ use Rattle.dsql_laws_calls.specs.driver.declared.answer.DriverAnswer.TheVariants
 use Rattle.dsql_laws_calls.specs.driver.declared.call.DriverCall.{DriverCall}
 use Rattle.dsql_laws_calls.specs.driver.declared.call.DriverCall.TheVariants.{Query, Next, CloseRows, CloseStmt, Valid}
 use Rattle.dsql_laws_calls.specs.driver.declared.call.Input.TheVariants.{Text, Handle}
-use Rattle.dsql_laws_calls.specs.driver.Kinds.{is_next, is_over}
+use Rattle.dsql_laws_calls.specs.driver.Kinds.{is_next, ends_cursor}
 use Rattle.dsql_laws_calls.specs.journal.declared.entry.Entry.{Entry}
 use Rattle.dsql_laws_calls.specs.journal.declared.entry.Owner.{Owner}
 use Rattle.dsql_laws_calls.specs.journal.Kinds.{is_call, is_house, number_of}
@@ -48,7 +48,7 @@ use Rattle.dsql_laws_calls.specs.history.Readers.Transactions.{is_begun, tx_ende
 use Rattle.dsql_laws_calls.specs.history.Readers.Works.{aim_of, asks, borrower, hands_out_in, is_fetch, owner_as, owner_of, scope, work}
 use Rattle.dsql_laws_calls.specs.history.Rules.Ending.{ending}
 use Rattle.dsql_laws_calls.specs.history.Rules.Line.{due_for, due_from, due_in, is_due, is_due_at, may_come, parts, sends_from, sends_in, tidying}
-use Rattle.dsql_laws_calls.specs.history.Rules.Sent.{asked_by, closes, closing, is_reset_due, line_of, sent_for, wish}
+use Rattle.dsql_laws_calls.specs.history.Rules.Sent.{asked_by, closes, close_due, is_reset_due, line_of, sent_for, wish}
 use Rattle.dsql_laws_calls.specs.history.Legal.{Allowed, Lawful}
 use Rattle.dsql_laws_callers.proofs.Heard.{heard_lent}
 use Rattle.dsql_laws_callers.proofs.KeptApart.{uses_its_own}
@@ -86,8 +86,8 @@ record Open (can : Caps) (asked : Asked) (made : List Exchange) : Type 0 where
   unread : rows_are_over made ≡ false
 
 open_at : (can : Caps) (asked : Asked) (s : Step) (made : List Exchange) → MadeAt can asked s made → is_holding s ≡ true → Open can asked made
-open_at can asked (HasRows own rows) made m h = record { rows = rows; cursor = m.cursor; unread = m.is_over }
-open_at can asked (HasRead own rows false) made m h = record { rows = rows; cursor = m.cursor; unread = m.is_over }
+open_at can asked (HasRows own rows) made m h = record { rows = rows; cursor = m.cursor; unread = m.are_over }
+open_at can asked (HasRead own rows false) made m h = record { rows = rows; cursor = m.cursor; unread = m.are_over }
 open_at can asked s made m h = absurd cc
 
 -- The rows of a call to which a connection is lent.
@@ -185,11 +185,11 @@ due_fetches H e own holds x d same comes = whose (e.call_no == 0) refl (ap (λ o
     tidies : is_due (tidying H (number_of own)) e.call ≡ true → ⊥
     tidies h = by (is_begun H (number_of own)) refl h
       where
-        closed : (b : Bool) → is_due (cond b (closing H (number_of own)) None) e.call ≡ true → ⊥
+        closed : (b : Bool) → is_due (cond b (close_due H (number_of own)) None) e.call ≡ true → ⊥
         closed false k = not_due e.call k
         closed true k = not_due e.call (ap (λ b. is_due (cond b (line_of H (number_of own) wishes.Close) None) e.call) (sym (live_not_over (rows_by H (number_of own)) x.lives)) ∙ k)
 
-        by : (b : Bool) → is_begun H (number_of own) ≡ b → is_due (cond b (cond (tx_ender H (number_of own) == 0) (ending H (number_of own)) None) (cond (ender H (number_of own) == 0) (closing H (number_of own)) None)) e.call ≡ true → ⊥
+        by : (b : Bool) → is_begun H (number_of own) ≡ b → is_due (cond b (cond (tx_ender H (number_of own) == 0) (ending H (number_of own)) None) (cond (ender H (number_of own) == 0) (close_due H (number_of own)) None)) e.call ≡ true → ⊥
         by true begun k = unbegun H e.conn e.tenure own x begun
         by false begun k = closed (ender H (number_of own) == 0) k
 
@@ -307,14 +307,14 @@ query_holds H (HandOut scope label) m q a n R s h none some = absurd (true_false
 query_holds H it m q a n R s h none some = absurd cc
 
 -- A fetch that leaves rows live leaves them open to fetches.
-next_holds : (s : Step) (r : ℕ) (a : DriverAnswer) → is_holding s ≡ true → is_over a ≡ false → is_holding (step_after s (Next r) a) ≡ true
+next_holds : (s : Step) (r : ℕ) (a : DriverAnswer) → is_holding s ≡ true → ends_cursor a ≡ false → is_holding (step_after s (Next r) a) ≡ true
 next_holds (HasRows own rows) r Bad h k = absurd cc
 next_holds (HasRead own rows false) r Bad h k = absurd cc
 next_holds (HasRows own rows) r a h k = ap (λ b. is_holding (HasRead own rows b)) k
 next_holds (HasRead own rows false) r a h k = ap (λ b. is_holding (HasRead own rows b)) k
 next_holds s r a h k = absurd cc
 
-fetch_on : (a : DriverAnswer) (x : Rows) → is_live (after_fetch a x) ≡ true → is_over a ≡ false
+fetch_on : (a : DriverAnswer) (x : Rows) → is_live (after_fetch a x) ≡ true → ends_cursor a ≡ false
 fetch_on (Row values) x h = refl
 fetch_on answers.End x h = let clash : true ≡ false = sym h ∙ ended_live row_ends.EndOfRows x in absurd cc
 fetch_on (Fail text) x h = let clash : true ≡ false = sym h ∙ ended_live (row_ends.Failed text) x in absurd cc
@@ -326,7 +326,7 @@ fetched_holds H m (Next cursor) a i R s next holds was now =
     let l = changes_one_number in
     next_holds s cursor a holds (still (rows_of i R) was (sym (ap live (l.changes (fetched a) i R)) ∙ now))
   where
-    still : (o : Option Rows) → live o ≡ true → live (option_map (fetched a) o) ≡ true → is_over a ≡ false
+    still : (o : Option Rows) → live o ≡ true → live (option_map (fetched a) o) ≡ true → ends_cursor a ≡ false
     still None h k = absurd cc
     still (Some x) h k = fetch_on a x (sym (ap (λ (b : Bool). is_live (cond b (after_fetch a x) x)) h) ∙ k)
 fetched_holds H m q a i R s next holds was now = absurd cc

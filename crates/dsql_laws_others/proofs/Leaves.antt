@@ -37,7 +37,7 @@ use Rattle.dsql_laws_calls.specs.history.Readers.Owed.{fate, given_back, left_of
 use Rattle.dsql_laws_calls.specs.history.Readers.Unfinished.{unfinished, is_unfinished}
 use Rattle.dsql_laws_calls.specs.history.Readers.Works.{work, borrower}
 use Rattle.dsql_laws_calls.specs.history.Rules.Line.{is_used}
-use Rattle.dsql_laws_calls.specs.history.Rules.Settled.{is_in_use, is_kept, uses_what_is_lent, goes_on_but}
+use Rattle.dsql_laws_calls.specs.history.Rules.Settled.{is_in_use, is_kept, uses_what_is_lent, calls_stand_but}
 use Rattle.dsql_laws_calls.specs.history.Rules.Stands.{is_own_step, is_settled_for, stand}
 use Rattle.dsql_laws_calls.specs.history.Legal.{Lawful}
 use Rattle.dsql_laws_calls.specs.laws.Leaving.{MayLeave}
@@ -132,12 +132,12 @@ stand_left H m x n some stays h =
 -- stands somewhere as before, except call n if it rested with c.
 pub record Settles (H K : List Event) (c n : ℕ) : Type 0 where
   pub used : UsedBeside H c → uses_what_is_lent K ≡ true
-  pub somewhere : (k : ℕ) → (rests H n ≡ true → k ≡ n) → goes_on_but k H ≡ true → goes_on_but k K ≡ true
+  pub somewhere : (k : ℕ) → (rests H n ≡ true → k ≡ n) → calls_stand_but k H ≡ true → calls_stand_but k K ≡ true
 
 settles_left : (H : List Event) (m : Move) (x : Leaving H m) → Settles H (Pool m ∷ H) x.conn (number_of x.owner)
 settles_left H m x = record { used = used_left H m x; somewhere = somewhere }
   where
-    somewhere : (k : ℕ) → (rests H (number_of x.owner) ≡ true → k ≡ number_of x.owner) → goes_on_but k H ≡ true → goes_on_but k (Pool m ∷ H) ≡ true
+    somewhere : (k : ℕ) → (rests H (number_of x.owner) ≡ true → k ≡ number_of x.owner) → calls_stand_but k H ≡ true → calls_stand_but k (Pool m ∷ H) ≡ true
     somewhere k but h = each_stands k k (unfinished H) H (Pool m ∷ H) (λ j u apart was. let l = x.lawful in stand_left H m x j (unfinished_from_one H j l.0 u) (stays j apart) (was apart)) h
       where
         stays : (j : ℕ) → j ≢ k → StaysHome H m x j

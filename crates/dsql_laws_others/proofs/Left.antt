@@ -15,7 +15,7 @@ use Rattle.dsql_laws_calls.specs.pool.declared.conn.Conn.{Conn}
 use Rattle.dsql_laws_calls.specs.pool.declared.conn.Place.{Place}
 use Rattle.dsql_laws_calls.specs.pool.declared.conn.Place.TheVariants.{Lent, Opening}
 use Rattle.dsql_laws_calls.specs.pool.declared.moves.Move.{Move}
-use Rattle.dsql_laws_calls.specs.pool.Changes.{changed}
+use Rattle.dsql_laws_calls.specs.pool.Changes.{conn_changed}
 use Rattle.dsql_laws_calls.specs.pool.Places.{conn_of, is_for, is_lent}
 use Rattle.dsql_laws_calls.proofs.pool.Found.{found_changed}
 use Rattle.dsql_laws_calls.specs.history.Readers.Pool.{is_home, or_none, smallest, pool, place, home}
@@ -41,7 +41,7 @@ use Rattle.dsql_laws_calls.specs.history.Readers.Unfinished.{is_unfinished}
 use Rattle.dsql_laws_calls.specs.history.Readers.Works.{works, work, borrower}
 use Rattle.dsql_laws_calls.specs.history.Rules.Ending.{ending}
 use Rattle.dsql_laws_calls.specs.history.Rules.Line.{due_in, due_for, is_used}
-use Rattle.dsql_laws_calls.specs.history.Rules.Sent.{line_at, line_of, wish, sent_for, closing}
+use Rattle.dsql_laws_calls.specs.history.Rules.Sent.{line_at, line_of, wish, sent_for, close_due}
 use Rattle.dsql_laws_calls.specs.history.Rules.Stands.{is_own_step}
 use Rattle.dsql_laws_calls.specs.history.Legal.{Lawful}
 use Rattle.dsql_laws_callers.proofs.Homes.{home_owner}
@@ -75,7 +75,7 @@ pub record Leaving (H : List Event) (m : Move) : Type 0 where
   pub unused : is_used H (number_of owner) ≡ false
   pub change : Conn → Conn
   pub number : (x : Conn) → (change x).number ≡ x.number
-  pub conns : (pool (Pool m ∷ H)).conns ≡ changed conn change (pool H).conns
+  pub conns : (pool (Pool m ∷ H)).conns ≡ conn_changed conn change (pool H).conns
   pub homeless : (n : ℕ) (x : Conn) → is_home n (change x).place ≡ false
   pub unopened : (n : ℕ) (x : Conn) → is_for n (change x).place ≡ false
   pub unlent : (x : Conn) → is_lent (Some (change x).place) ≡ false
@@ -211,7 +211,7 @@ ended_before H m x =
 ended_after : (H : List Event) (m : Move) (x : Leaving H m) → ending (Pool m ∷ H) (number_of x.owner) ≡ None
 ended_after H m x = no_ending (Pool m ∷ H) (number_of x.owner) (home (Pool m ∷ H) (number_of x.owner)) (tx_end H (number_of x.owner)) refl (unlent_home H m x)
 
-closing_left : (H : List Event) (m : Move) (x : Leaving H m) (j : ℕ) → closing (Pool m ∷ H) j ≡ closing H j
+closing_left : (H : List Event) (m : Move) (x : Leaving H m) (j : ℕ) → close_due (Pool m ∷ H) j ≡ close_due H j
 closing_left H m x j = closing_alike H (Pool m ∷ H) j refl (λ over. by over (same_or_not (borrower H j) (number_of x.owner)))
   where
     by : are_over H j ≡ true → (borrower H j ≡ number_of x.owner) ⊎ (borrower H j ≢ number_of x.owner) → line_of (Pool m ∷ H) j wishes.Close ≡ line_of H j wishes.Close

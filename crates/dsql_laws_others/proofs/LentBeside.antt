@@ -12,7 +12,7 @@ use Rattle.dsql_laws_calls.specs.pool.declared.conn.Conn.{Conn}
 use Rattle.dsql_laws_calls.specs.pool.declared.conn.Place.{Place}
 use Rattle.dsql_laws_calls.specs.pool.declared.conn.Place.TheVariants.{Lent}
 use Rattle.dsql_laws_calls.specs.pool.declared.moves.Move.TheVariants.{Lend}
-use Rattle.dsql_laws_calls.specs.pool.Changes.{lent, changed}
+use Rattle.dsql_laws_calls.specs.pool.Changes.{lent, conn_changed}
 use Rattle.dsql_laws_calls.specs.pool.Places.{conn_of, is_idle, is_lent, is_opening}
 use Rattle.dsql_laws_calls.specs.tx.declared.tx.Tx.{Tx as Trans}
 use Rattle.dsql_laws_calls.specs.history.Readers.HandedOut.{over, rows_by, are_live}
@@ -235,7 +235,7 @@ kept_still H c t own n j l h = by (same_or_not j n)
     by (inl same) = ap (is_kept (lends H c t own n)) same ∙ kept_lent H c t own n l
     by (inr apart) = either_still (is_used H j) (rests H j) (is_used (lends H c t own n) j) (rests (lends H c t own n) j) (used_still H c t own n j l) (λ x. rests_other H c t own n j apart ∙ x) h
 
-all_changed : (q r : Conn → Bool) (c : ℕ) (f : Conn → Conn) (conns : List Conn) → ((x : Conn) → r x ≡ true → q x ≡ true) → ((x : Conn) → q (f x) ≡ true) → list_all r conns ≡ true → list_all q (changed c f conns) ≡ true
+all_changed : (q r : Conn → Bool) (c : ℕ) (f : Conn → Conn) (conns : List Conn) → ((x : Conn) → r x ≡ true → q x ≡ true) → ((x : Conn) → q (f x) ≡ true) → list_all r conns ≡ true → list_all q (conn_changed c f conns) ≡ true
 all_changed q r c f [] so new h = refl
 all_changed q r c f (x ∷ xs) so new h = let a = both (r x) (list_all r xs) h in by (x.number == c) a.0 a.1 (all_changed q r c f xs so new a.1)
   where
@@ -243,9 +243,9 @@ all_changed q r c f (x ∷ xs) so new h = let a = both (r x) (list_all r xs) h i
     every [] k = refl
     every (y ∷ ys) k = let a = both (r y) (list_all r ys) k in together (q y) (list_all q ys) (so y a.0) (every ys a.1)
 
-    by : (b : Bool) → r x ≡ true → list_all r xs ≡ true → list_all q (changed c f xs) ≡ true → list_all q (cond b (f x ∷ xs) (x ∷ changed c f xs)) ≡ true
+    by : (b : Bool) → r x ≡ true → list_all r xs ≡ true → list_all q (conn_changed c f xs) ≡ true → list_all q (cond b (f x ∷ xs) (x ∷ conn_changed c f xs)) ≡ true
     by true here rest later = together (q (f x)) (list_all q xs) (new x) (every xs rest)
-    by false here rest later = together (q x) (list_all q (changed c f xs)) (so x here) later
+    by false here rest later = together (q x) (list_all q (conn_changed c f xs)) (so x here) later
 
 pub all_used : (H : List Event) (c t : ℕ) (own : Owner) (n : ℕ) → Lawful (lends H c t own n) → uses_what_is_lent H ≡ true → uses_what_is_lent (lends H c t own n) ≡ true
 all_used H c t own n l h =

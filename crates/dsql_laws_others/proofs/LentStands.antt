@@ -8,7 +8,7 @@ use Rattle.dsql_laws_calls.specs.journal.Readers.{is_empty}
 use Rattle.dsql_laws_calls.specs.pool.declared.conn.Conn.{Conn}
 use Rattle.dsql_laws_calls.specs.pool.declared.conn.Place.{Place}
 use Rattle.dsql_laws_calls.specs.pool.declared.conn.Place.TheVariants.{Idle, Lent, Opening, Closing}
-use Rattle.dsql_laws_calls.specs.pool.Changes.{lent, changed}
+use Rattle.dsql_laws_calls.specs.pool.Changes.{lent, conn_changed}
 use Rattle.dsql_laws_calls.specs.pool.Places.{conn_of, is_for}
 use Rattle.dsql_laws_calls.specs.history.declared.record.Try.TheVariants.{Served}
 use Rattle.dsql_laws_calls.specs.history.Readers.Pool.{is_home, or_none, smallest, pool, place, home}
@@ -31,7 +31,7 @@ use Rattle.dsql_laws_calls.specs.history.Readers.Owed.{owed}
 use Rattle.dsql_laws_calls.specs.history.Readers.Transactions.{is_begun, tx_end}
 use Rattle.dsql_laws_calls.specs.history.Readers.Unfinished.{unfinished}
 use Rattle.dsql_laws_calls.specs.history.Readers.Works.{work, scope, borrower}
-use Rattle.dsql_laws_calls.specs.history.Rules.Settled.{goes_on, goes_on_but}
+use Rattle.dsql_laws_calls.specs.history.Rules.Settled.{calls_stand, calls_stand_but}
 use Rattle.dsql_laws_calls.specs.history.Rules.Stands.{is_own_step, is_settled_for, stand}
 use Rattle.dsql_laws_calls.specs.history.Legal.{Lawful}
 use Rattle.dsql_laws_calls.proofs.laws.Tried.{lends_to}
@@ -41,12 +41,12 @@ use Rattle.dsql_laws_others.proofs.LentOthers.{unbegun_silent, due_others}
 
 -- A search for another call finds the same connection before and after.
 
-pub found_same : (q : Conn → Bool) (c : ℕ) (f : Conn → Conn) (conns : List Conn) → ((x : Conn) → conn_of c conns ≡ Some x → q x ≡ false) → ((x : Conn) → q (f x) ≡ false) → find q (changed c f conns) ≡ find q conns
+pub found_same : (q : Conn → Bool) (c : ℕ) (f : Conn → Conn) (conns : List Conn) → ((x : Conn) → conn_of c conns ≡ Some x → q x ≡ false) → ((x : Conn) → q (f x) ≡ false) → find q (conn_changed c f conns) ≡ find q conns
 found_same q c f [] before after = refl
 found_same q c f (x ∷ xs) before after = by (x.number == c) before (found_same q c f xs)
   where
-    by : (b : Bool) → ((y : Conn) → cond b (Some x) (conn_of c xs) ≡ Some y → q y ≡ false) → (((y : Conn) → conn_of c xs ≡ Some y → q y ≡ false) → ((y : Conn) → q (f y) ≡ false) → find q (changed c f xs) ≡ find q xs)
-        → find q (cond b (f x ∷ xs) (x ∷ changed c f xs)) ≡ find q (x ∷ xs)
+    by : (b : Bool) → ((y : Conn) → cond b (Some x) (conn_of c xs) ≡ Some y → q y ≡ false) → (((y : Conn) → conn_of c xs ≡ Some y → q y ≡ false) → ((y : Conn) → q (f y) ≡ false) → find q (conn_changed c f xs) ≡ find q xs)
+        → find q (cond b (f x ∷ xs) (x ∷ conn_changed c f xs)) ≡ find q (x ∷ xs)
     by true was rest = ap (λ b. cond b (Some (f x)) (find q xs)) (after x) ∙ sym (ap (λ b. cond b (Some x) (find q xs)) (was x refl))
     by false was rest = ap (λ o. cond (q x) (Some x) o) (rest was after)
 
@@ -152,8 +152,8 @@ some_stand H c t own n m l step so = by (same_or_not m n)
     by (inl same) = ap (λ k. is_some (stand (lends H c t own n) k)) same ∙ ap (λ s. is_some s) (stands_lent H c t own n l step)
     by (inr apart) = stand_other H c t own n m l apart (so apart)
 
-pub itself_lent : (H : List Event) (c t : ℕ) (own : Owner) (n : ℕ) → Lawful (lends H c t own n) → (rests (lends H c t own n) n ≡ true → is_own_step (lends H c t own n) n ≡ false) → goes_on_but n H ≡ true → goes_on (lends H c t own n) ≡ true
+pub itself_lent : (H : List Event) (c t : ℕ) (own : Owner) (n : ℕ) → Lawful (lends H c t own n) → (rests (lends H c t own n) n ≡ true → is_own_step (lends H c t own n) n ≡ false) → calls_stand_but n H ≡ true → calls_stand (lends H c t own n) ≡ true
 itself_lent H c t own n l step h = each_stands n 0 (unfinished H) H (lends H c t own n) (λ j u some was. some_stand H c t own n j l step was) h
 
-pub somewhere_lent : (H : List Event) (c t : ℕ) (own : Owner) (n k : ℕ) → Lawful (lends H c t own n) → (rests (lends H c t own n) n ≡ true → is_own_step (lends H c t own n) n ≡ false) → goes_on_but k H ≡ true → goes_on_but k (lends H c t own n) ≡ true
+pub somewhere_lent : (H : List Event) (c t : ℕ) (own : Owner) (n k : ℕ) → Lawful (lends H c t own n) → (rests (lends H c t own n) n ≡ true → is_own_step (lends H c t own n) n ≡ false) → calls_stand_but k H ≡ true → calls_stand_but k (lends H c t own n) ≡ true
 somewhere_lent H c t own n k l step h = each_stands k k (unfinished H) H (lends H c t own n) (λ j u apart was. some_stand H c t own n j l step (λ other. was apart)) h

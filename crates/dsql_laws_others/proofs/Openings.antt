@@ -22,7 +22,7 @@ use Rattle.dsql_laws_calls.proofs.laws.Tests.{other_number, same_itself}
 use Rattle.dsql_laws_calls.specs.history.declared.event.Event.{Event}
 use Rattle.dsql_laws_calls.specs.history.declared.event.Event.TheVariants.{Pool}
 use Rattle.dsql_laws_calls.specs.history.Readers.Unfinished.{unfinished}
-use Rattle.dsql_laws_calls.specs.history.Rules.Settled.{is_in_use, uses_what_is_lent, goes_on_but, goes_on}
+use Rattle.dsql_laws_calls.specs.history.Rules.Settled.{is_in_use, uses_what_is_lent, calls_stand_but, calls_stand}
 use Rattle.dsql_laws_others.proofs.Numbers.{none_zero, none_next}
 use Rattle.dsql_laws_calls.specs.history.declared.record.Stand.{Stand}
 use Rattle.dsql_laws_others.proofs.Untouched.{each_still, still_stands}
@@ -277,12 +277,12 @@ itself_opens H c n some =
     somewhere_opening (waits n p.waiting) (smallest (is_for n) (pool K)) (or_else (stands (is_some (due_for K n)) (stands_at.Sends (site K n))) (or_else (stands (has_to_reply K n) stands_at.Replies) (stands (asks_again (tries H n)) stands_at.Asks)))
     (some_number (find (λ conn. is_for n conn.place) (p.conns ++ opening (next_number p) (wanted_by H n) ∷ [])) ∙ found)
 
-pub goes_on_opens : (H : List Event) (c n : ℕ) → Silent H → goes_on_but n H ≡ true → goes_on (opens_for H c n) ≡ true
+pub goes_on_opens : (H : List Event) (c n : ℕ) → Silent H → calls_stand_but n H ≡ true → calls_stand (opens_for H c n) ≡ true
 goes_on_opens H c n l h = each_stands n 0 (unfinished H) H (opens_for H c n) (λ m u some was. by m some (same_or_not m n) was) h
   where
     by : (m : ℕ) → m ≢ 0 → (m ≡ n) ⊎ (m ≢ n) → (m ≢ n → is_some (stand H m) ≡ true) → is_some (stand (opens_for H c n) m) ≡ true
     by m some (inl same) was = subst (λ j. is_some (stand (opens_for H c n) j) ≡ true) (sym same) (itself_opens H c n (other_number n 0 (λ none. some (same ∙ none))))
     by m some (inr apart) was = stand_opens H c n m l (was apart)
 
-pub goes_on_opens_but : (H : List Event) (c k n : ℕ) → Silent H → goes_on_but n H ≡ true → goes_on_but n (opens_for H c k) ≡ true
+pub goes_on_opens_but : (H : List Event) (c k n : ℕ) → Silent H → calls_stand_but n H ≡ true → calls_stand_but n (opens_for H c k) ≡ true
 goes_on_opens_but H c k n l h = each_still n (unfinished H) H (opens_for H c k) (λ m. stand_opens H c k m l) h

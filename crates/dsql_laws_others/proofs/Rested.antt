@@ -26,7 +26,7 @@ use Rattle.dsql_laws_calls.specs.works.declared.work.Aim.TheVariants as aims
 use Rattle.dsql_laws_calls.specs.works.Journals.{ends_invalid}
 use Rattle.dsql_laws_calls.specs.works.Exchanges.{exchanges}
 use Rattle.dsql_laws_calls.specs.works.Line.{Asked, body_after, found, line_after, sent_as}
-use Rattle.dsql_laws_calls.proofs.laws_work.Lines.{is_over}
+use Rattle.dsql_laws_calls.proofs.laws_work.Lines.{sends_no_more}
 use Rattle.dsql_laws_calls.specs.history.declared.record.Try.{Try}
 use Rattle.dsql_laws_calls.specs.history.declared.record.Try.TheVariants.{Served, Refused}
 use Rattle.dsql_laws_calls.specs.history.Readers.Owed.{fate_when, fate}
@@ -184,12 +184,12 @@ sends_itself H c t own m l pings (inr (inr why)) = let clash : false ≡ true = 
 
 -- A tenure with nothing but resets, none of which ends it.
 pub record OnlyReset (L : List Entry) : Type 0 where
-  pub on : is_over L ≡ false
+  pub on : sends_no_more L ≡ false
   pub resets : list_all (λ x. is_reset x.call) L ≡ true
 
 more_reset : (L M : List Entry) (e : Entry) → M ≡ e ∷ L → e.call ≡ Reset → (is_bad e.answer || is_valid e.call) ≡ false → OnlyReset L → OnlyReset M
 more_reset L M e is reset on s = record {
-  on = ap is_over is ∙ on;
+  on = ap sends_no_more is ∙ on;
   resets = ap (list_all (λ x. is_reset x.call)) is ∙ (ap (λ q. is_reset q && list_all (λ x. is_reset x.call) L) reset ∙ s.resets);
 }
 
@@ -251,7 +251,7 @@ only_resets [] c t own l at h = absurd cc
 only_resets (e ∷ H) c t own l at h = by (λ before was. only_resets H c t own l.0 before was) (lent_before H e c t own l.0 at)
   where
     none : (L : List Entry) → L ≡ [] → OnlyReset L
-    none L is = record { on = ap is_over is; resets = ap (list_all (λ x. is_reset x.call)) is }
+    none L is = record { on = ap sends_no_more is; resets = ap (list_all (λ x. is_reset x.call)) is }
 
     by : (place H c ≡ Some (Lent t own) → rests H (number_of own) ≡ true → OnlyReset (heard_in H c t)) → (place H c ≡ Some (Lent t own)) ⊎ Lends e c t own → OnlyReset (heard_in (e ∷ H) c t)
     by earlier (inl before) = step H e c t own l before h (earlier before)
@@ -275,4 +275,4 @@ rests_well H c t own l at h = good (journals.went_bad (journal H c)) (ends_inval
 
     by : (b : Bool) → is_spoilt (journal H c) ≡ b → b ≡ false
     by false is = refl
-    by true is = let r = rests_pinging H (number_of own) h in absurd (clash (is_over (heard_in H c t)) (there (pings_as_call H c t own l at r.pings) is) (let o = only_resets H c t own l at h in o.on))
+    by true is = let r = rests_pinging H (number_of own) h in absurd (clash (sends_no_more (heard_in H c t)) (there (pings_as_call H c t own l at r.pings) is) (let o = only_resets H c t own l at h in o.on))

@@ -21,7 +21,7 @@ use Rattle.dsql_laws_calls.specs.history.Readers.Transactions.{tx_end}
 use Rattle.dsql_laws_calls.specs.history.Readers.Unfinished.{is_unfinished}
 use Rattle.dsql_laws_calls.specs.history.Readers.Works.{work}
 use Rattle.dsql_laws_calls.specs.history.Rules.Line.{due_for}
-use Rattle.dsql_laws_calls.specs.history.Rules.Settled.{goes_on, goes_on_but}
+use Rattle.dsql_laws_calls.specs.history.Rules.Settled.{calls_stand, calls_stand_but}
 use Rattle.dsql_laws_calls.specs.history.Rules.Stands.{is_own_step, is_settled_for, has_to_reply, stand}
 use Rattle.dsql_laws_calls.proofs.Begun.{stays_over}
 use Rattle.dsql_laws_calls.proofs.EndedRows.{rows_kept}
@@ -92,5 +92,5 @@ stand_on H client n op m x apart u h =
     goes (inl k) = inl k
     goes (inr t) = inr (replies (tells H client n op m x apart t))
 
-pub each_on : (H : List Event) (client n : ℕ) (op : Op) → Enters H client n op → goes_on H ≡ true → goes_on_but n (enters H client n op) ≡ true
+pub each_on : (H : List Event) (client n : ℕ) (op : Op) → Enters H client n op → calls_stand H ≡ true → calls_stand_but n (enters H client n op) ≡ true
 each_on H client n op x h = each_entered H client n op (λ m u some apart. stand_on H client n op m x apart u) (let l = x.lawful in l.0) h

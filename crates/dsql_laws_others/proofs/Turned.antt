@@ -1,7 +1,7 @@
 -- What the entry of a call makes of rows and transactions: each is as it was, or the entry has ended it.
 use Rattle.std.proofs.Common.{◌≡◌, ◌≢◌, ℕ, ◌⊎◌, inl, inr, Bool, true, false, not, ◌&&◌, cond, List, ◌∷◌, map, Option, Some, None, is_some, unwrap_or, refl, sym, ap, ◌∙◌}
 use Rattle.std.specs.Option.{option_map}
-use Rattle.dsql_laws_calls.specs.numbered.Numbered.{thing_of, changed as changed_in, changed}
+use Rattle.dsql_laws_calls.specs.numbered.Numbered.{thing_of, changed}
 use Rattle.dsql_laws_calls.proofs.numbered.Numbers.{changes_one_number}
 use Rattle.dsql_laws_calls.specs.rows.declared.rows.Rows.{Rows}
 use Rattle.dsql_laws_calls.specs.rows.declared.end.RowsEnd.{RowsEnd}
@@ -121,8 +121,8 @@ tx_turn H client n op k = by (entered_tx H client n op k)
 pub ended_now : (H : List Event) (tx : List ℕ) (by : TxEnd) (k : ℕ) → k ≡ tx_maker (works H) tx → is_unfinished H (tx_maker (works H) tx) ≡ false → is_begun H k ≡ true → is_some (end_of (thing_of k (ends_as H tx by (transactions H)))) ≡ true
 ended_now H tx by k is replied begun =
     let l = changes_one_number {X = Trans} in
-    ap (λ (b : Bool). is_some (end_of (thing_of k (cond b (transactions H) (changed_in (of_txs.ended_by by) (tx_maker (works H) tx) (transactions H)))))) replied
-    ∙ (ap (λ i. is_some (end_of (thing_of k (changed_in (of_txs.ended_by by) i (transactions H))))) (sym is)
+    ap (λ (b : Bool). is_some (end_of (thing_of k (cond b (transactions H) (changed (of_txs.ended_by by) (tx_maker (works H) tx) (transactions H)))))) replied
+    ∙ (ap (λ i. is_some (end_of (thing_of k (changed (of_txs.ended_by by) i (transactions H))))) (sym is)
     ∙ (ap (λ o. is_some (end_of o)) (l.changes (of_txs.ended_by by) k (transactions H)) ∙ ended (tx_by H k) begun))
   where
     ended : (o : Option Trans) → is_some o ≡ true → is_some (end_of (option_map (of_txs.ended_by by) o)) ≡ true

@@ -9,7 +9,7 @@ use Rattle.dsql_laws_calls.specs.driver.Fits.{is_done}
 use Rattle.dsql_laws_calls.specs.driver.Kinds.{is_begin, is_reset}
 use Rattle.dsql_laws_calls.specs.journal.declared.entry.Entry.{Entry}
 use Rattle.dsql_laws_calls.specs.journal.Kinds.{◌⇒◌, is_call}
-use Rattle.dsql_laws_calls.specs.journal.Readers.{of_tenure, LiveCursor, LiveHandle, begun, ended, cursors, cursors_after, changed, after_next, handles, handles_after, has, went_bad}
+use Rattle.dsql_laws_calls.specs.journal.Readers.{of_tenure, LiveCursor, LiveHandle, begun, ended, cursors, cursors_after, cursor_changed, after_next, handles, handles_after, has, went_bad}
 use Rattle.dsql_laws_calls.specs.journal.Tenure.{has_ended_transactions, has_closed_cursors, has_closed_handles, is_whole_tenure}
 use Rattle.dsql_laws_calls.proofs.laws.Truths.{or_second}
 use Rattle.dsql_laws_calls.proofs.laws.Tests.{both, together}
@@ -43,13 +43,13 @@ all_kept p q (x ∷ xs) h =
       | false ↦ all_kept p q xs a.1
     ]
 
-still_closed : (t rows : ℕ) (a : DriverAnswer) (cs : List LiveCursor) → list_all (closed_cursor t) cs ≡ true → list_all (closed_cursor t) (changed rows (after_next a) cs) ≡ true
+still_closed : (t rows : ℕ) (a : DriverAnswer) (cs : List LiveCursor) → list_all (closed_cursor t) cs ≡ true → list_all (closed_cursor t) (cursor_changed rows (after_next a) cs) ≡ true
 still_closed t rows a [] h = refl
 still_closed t rows a (c ∷ cs) h =
     let x = both (closed_cursor t c) (list_all (closed_cursor t) cs) h in
-    elim (c.number == rows) as (λ b. list_all (closed_cursor t) ((if b then after_next a c else c) ∷ changed rows (after_next a) cs) ≡ true) [
-      | true ↦ together (closed_cursor t c) (list_all (closed_cursor t) (changed rows (after_next a) cs)) x.0 (still_closed t rows a cs x.1)
-      | false ↦ together (closed_cursor t c) (list_all (closed_cursor t) (changed rows (after_next a) cs)) x.0 (still_closed t rows a cs x.1)
+    elim (c.number == rows) as (λ b. list_all (closed_cursor t) ((if b then after_next a c else c) ∷ cursor_changed rows (after_next a) cs) ≡ true) [
+      | true ↦ together (closed_cursor t c) (list_all (closed_cursor t) (cursor_changed rows (after_next a) cs)) x.0 (still_closed t rows a cs x.1)
+      | false ↦ together (closed_cursor t c) (list_all (closed_cursor t) (cursor_changed rows (after_next a) cs)) x.0 (still_closed t rows a cs x.1)
     ]
 
 other_cursor : (t : ℕ) (e : Entry) (q : DriverCall) (a : DriverAnswer) (cs : List LiveCursor) → (e.tenure == t) ≡ false → list_all (closed_cursor t) cs ≡ true → list_all (closed_cursor t) (cursors_after e q a cs) ≡ true

@@ -38,7 +38,7 @@ use Rattle.dsql_laws_calls.specs.history.Rules.Ending.{ending}
 use Rattle.dsql_laws_calls.specs.history.Rules.Line.{due_for, is_used}
 use Rattle.dsql_laws_calls.specs.history.Rules.Replies.{gave_back}
 use Rattle.dsql_laws_calls.specs.history.Rules.Sent.{line_of}
-use Rattle.dsql_laws_calls.specs.history.Rules.Settled.{is_in_use, is_kept, uses_what_is_lent, goes_on_but, goes_on}
+use Rattle.dsql_laws_calls.specs.history.Rules.Settled.{is_in_use, is_kept, uses_what_is_lent, calls_stand_but, calls_stand}
 use Rattle.dsql_laws_calls.proofs.Works.{other_replied}
 use Rattle.dsql_laws_calls.proofs.Enders.{same_ender}
 use Rattle.dsql_laws_calls.proofs.laws_work.Rows.{same_or_not}
@@ -315,12 +315,12 @@ all_without q r n (m ∷ ms) so h =
       | false ↦ λ is. together (r m) (list_all r (without n ms)) (so m is a.0) rest
     ] refl
 
-pub goes_on_replied : (H : List Event) (n : ℕ) (reply : Reply) → goes_on_but n H ≡ true → goes_on (Replied n reply ∷ H) ≡ true
+pub goes_on_replied : (H : List Event) (n : ℕ) (reply : Reply) → calls_stand_but n H ≡ true → calls_stand (Replied n reply ∷ H) ≡ true
 goes_on_replied H n reply h =
     all_without (λ m. (m == n) || is_some (stand H m)) (λ m. (m == 0) || is_some (stand (Replied n reply ∷ H) m)) n (unfinished H)
     (λ m other so. or_right (m == 0) (is_some (stand (Replied n reply ∷ H) m)) (stand_replied H n reply m (apart_of m n other) (but_for (m == n) (is_some (stand H m)) so other))) h
 
-pub goes_on_waits : (H : List Event) (n : ℕ) → goes_on_but n H ≡ true → goes_on (Waits n ∷ H) ≡ true
+pub goes_on_waits : (H : List Event) (n : ℕ) → calls_stand_but n H ≡ true → calls_stand (Waits n ∷ H) ≡ true
 goes_on_waits H n h = each_stands n 0 (unfinished H) H (Waits n ∷ H) (λ m u some was. by m (same_or_not m n) was) h
   where
     by : (m : ℕ) → (m ≡ n) ⊎ (m ≢ n) → (m ≢ n → is_some (stand H m) ≡ true) → is_some (stand (Waits n ∷ H) m) ≡ true
@@ -331,6 +331,6 @@ goes_on_waits H n h = each_stands n 0 (unfinished H) H (Waits n ∷ H) (λ m u s
 pub each_still : (n : ℕ) (ms : List ℕ) (H K : List Event) → ((m : ℕ) → is_some (stand H m) ≡ true → is_some (stand K m) ≡ true) → list_all (λ m. (m == n) || is_some (stand H m)) ms ≡ true → list_all (λ m. (m == n) || is_some (stand K m)) ms ≡ true
 each_still n ms H K so h = each_stands n n ms H K (λ m there apart was. so m (was apart)) h
 
-pub goes_on_control : (H : List Event) (control : Control) (n : ℕ) → goes_on_but n H ≡ true → goes_on_but n (told control ∷ H) ≡ true
+pub goes_on_control : (H : List Event) (control : Control) (n : ℕ) → calls_stand_but n H ≡ true → calls_stand_but n (told control ∷ H) ≡ true
 goes_on_control H (Tick k) n h = each_still n (unfinished H) H (told (Tick k) ∷ H) (stand_control H (Tick k)) h
 goes_on_control H (Set s k) n h = each_still n (unfinished H) H (told (Set s k) ∷ H) (stand_control H (Set s k)) h

@@ -5,7 +5,7 @@ ghost use Rattle.dsql_laws_calls.specs.history.declared.event.Event.{Event};
 ghost use Rattle.dsql_laws_calls.specs.history.declared.event.Event.TheVariants.{Ended, Entered};
 ghost use Rattle.dsql_laws_calls.specs.history.declared.event.Op.TheVariants.{DbClose};
 ghost use Rattle.dsql_laws_calls.specs.history.Readers.Owed.{owed};
-ghost use Rattle.dsql_laws_calls.specs.history.Rules.Settled.{goes_on, goes_on_but, uses_what_is_lent};
+ghost use Rattle.dsql_laws_calls.specs.history.Rules.Settled.{calls_stand, calls_stand_but, uses_what_is_lent};
 ghost use Rattle.dsql_laws_calls.specs.history.Legal.{Lawful};
 ghost use Rattle.dsql_laws_calls.specs.laws.OwedMade.{with_moves};
 
@@ -14,8 +14,8 @@ ghost use Rattle.dsql_laws_calls.specs.laws.OwedMade.{with_moves};
 /// rows are to be closed, and transactions are to be ended.
 pub fn closing_the_database_leaves_each_call_somewhere()
     ensures others { (history : List Event) (client n : ℕ) → Lawful (Entered client n DbClose ∷ history)
-        → goes_on history ≡ true
-        → goes_on_but n (with_moves (owed (Entered client n DbClose ∷ history))
+        → calls_stand history ≡ true
+        → calls_stand_but n (with_moves (owed (Entered client n DbClose ∷ history))
         (Entered client n DbClose ∷ history)) ≡ true }
     ensures used { (history : List Event) (client n : ℕ) → Lawful (Entered client n DbClose ∷ history)
         → uses_what_is_lent history ≡ true

@@ -11,7 +11,7 @@ ghost use Rattle.dsql_laws_calls.specs.history.Readers.HandedOut.{are_live};
 ghost use Rattle.dsql_laws_calls.specs.history.Readers.Unfinished.{is_unfinished};
 ghost use Rattle.dsql_laws_calls.specs.history.Readers.Works.{borrower, hands_out_in, scope, work};
 ghost use Rattle.dsql_laws_calls.specs.history.Rules.Line.{due_for};
-ghost use Rattle.dsql_laws_calls.specs.history.Rules.Settled.{goes_on, goes_on_but, uses_what_is_lent};
+ghost use Rattle.dsql_laws_calls.specs.history.Rules.Settled.{calls_stand, calls_stand_but, uses_what_is_lent};
 ghost use Rattle.dsql_laws_calls.specs.history.Rules.Stands.{stand};
 ghost use Rattle.dsql_laws_calls.specs.history.Legal.{Lawful};
 ghost use Rattle.dsql_laws_others.specs.Ends.{end_by, ends_now, ends_transaction};
@@ -21,7 +21,7 @@ ghost use Rattle.dsql_laws_others.specs.Ends.{end_by, ends_now, ends_transaction
 /// that call uses the connection of the transaction.
 pub fn ending_a_transaction_leaves_each_call_somewhere()
     ensures others { (history : List Event) (client n : ℕ) (op : Op) → Lawful (Entered client n op ∷ history)
-        → ends_transaction op ≡ true → goes_on history ≡ true → goes_on_but n (Entered client n op ∷ history)
+        → ends_transaction op ≡ true → calls_stand history ≡ true → calls_stand_but n (Entered client n op ∷ history)
         ≡ true }
     ensures used { (history : List Event) (client n : ℕ) (op : Op) → Lawful (Entered client n op ∷ history)
         → ends_transaction op ≡ true → uses_what_is_lent (Entered client n op ∷ history)

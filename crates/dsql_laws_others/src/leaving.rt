@@ -11,7 +11,7 @@ ghost use Rattle.dsql_laws_calls.specs.history.Readers.Owed.{fate, given_back};
 ghost use Rattle.dsql_laws_calls.specs.history.Readers.Pool.{place};
 ghost use Rattle.dsql_laws_calls.specs.history.Readers.Unfinished.{is_unfinished};
 ghost use Rattle.dsql_laws_calls.specs.history.Rules.Line.{due_for};
-ghost use Rattle.dsql_laws_calls.specs.history.Rules.Settled.{goes_on_but, is_settled_but, uses_what_is_lent};
+ghost use Rattle.dsql_laws_calls.specs.history.Rules.Settled.{calls_stand_but, is_settled_but, uses_what_is_lent};
 ghost use Rattle.dsql_laws_calls.specs.history.Legal.{Lawful};
 ghost use Rattle.dsql_laws_calls.specs.laws.Leaving.{MayLeave};
 ghost use Rattle.dsql_laws_calls.specs.laws.OwedMade.{with_moves};
@@ -25,8 +25,8 @@ pub fn what_leaves_touches_no_call()
     ensures used { (history : List Event) (conn : ℕ) → Lawful history → MayLeave history conn → UsedBeside history conn
         → uses_what_is_lent (with_moves (given_back history conn) history) ≡ true }
     ensures somewhere { (history : List Event) (conn k : ℕ) (may : MayLeave history conn) → Lawful history
-        → (rests history (number_of may.owner) ≡ true → k ≡ number_of may.owner) → goes_on_but k history ≡ true
-        → goes_on_but k (with_moves (given_back history conn) history) ≡ true }
+        → (rests history (number_of may.owner) ≡ true → k ≡ number_of may.owner) → calls_stand_but k history ≡ true
+        → calls_stand_but k (with_moves (given_back history conn) history) ≡ true }
 {}
 
 /// A connection with which a call rests is good: nothing heard there makes it bad.

@@ -12,7 +12,7 @@ ghost use Rattle.dsql_laws_calls.specs.history.Readers.Calls.{rests};
 ghost use Rattle.dsql_laws_calls.specs.history.Readers.Pool.{place, pool};
 ghost use Rattle.dsql_laws_calls.specs.history.Readers.Unfinished.{is_unfinished};
 ghost use Rattle.dsql_laws_calls.specs.history.Rules.Line.{due_for, is_used};
-ghost use Rattle.dsql_laws_calls.specs.history.Rules.Settled.{goes_on, goes_on_but, is_kept, uses_what_is_lent};
+ghost use Rattle.dsql_laws_calls.specs.history.Rules.Settled.{calls_stand, calls_stand_but, is_kept, uses_what_is_lent};
 ghost use Rattle.dsql_laws_calls.specs.history.Rules.Stands.{is_own_step, stand};
 ghost use Rattle.dsql_laws_calls.specs.history.Legal.{Lawful};
 
@@ -48,11 +48,11 @@ pub fn a_lending_touches_no_other_call()
         → uses_what_is_lent history ≡ true → uses_what_is_lent (Pool (Lend c t owner n) ∷ history) ≡ true }
     ensures itself { (history : List Event) (c t n : ℕ) (owner : Owner) → Lawful (Pool (Lend c t owner n) ∷ history)
         → (rests (Pool (Lend c t owner n) ∷ history) n ≡ true
-        → is_own_step (Pool (Lend c t owner n) ∷ history) n ≡ false) → goes_on_but n history ≡ true
-        → goes_on (Pool (Lend c t owner n) ∷ history) ≡ true }
+        → is_own_step (Pool (Lend c t owner n) ∷ history) n ≡ false) → calls_stand_but n history ≡ true
+        → calls_stand (Pool (Lend c t owner n) ∷ history) ≡ true }
     ensures somewhere { (history : List Event) (c t n k : ℕ) (owner : Owner)
         → Lawful (Pool (Lend c t owner n) ∷ history)
         → (rests (Pool (Lend c t owner n) ∷ history) n ≡ true
-        → is_own_step (Pool (Lend c t owner n) ∷ history) n ≡ false) → goes_on_but k history ≡ true
-        → goes_on_but k (Pool (Lend c t owner n) ∷ history) ≡ true }
+        → is_own_step (Pool (Lend c t owner n) ∷ history) n ≡ false) → calls_stand_but k history ≡ true
+        → calls_stand_but k (Pool (Lend c t owner n) ∷ history) ≡ true }
 {}

@@ -13,7 +13,7 @@ ghost use Rattle.dsql_laws_calls.specs.history.Readers.Owed.{owed};
 ghost use Rattle.dsql_laws_calls.specs.history.Readers.Pool.{place};
 ghost use Rattle.dsql_laws_calls.specs.history.Rules.Line.{due_for};
 ghost use Rattle.dsql_laws_calls.specs.history.Rules.Replies.{gave_back};
-ghost use Rattle.dsql_laws_calls.specs.history.Rules.Settled.{goes_on, goes_on_but, uses_what_is_lent};
+ghost use Rattle.dsql_laws_calls.specs.history.Rules.Settled.{calls_stand, calls_stand_but, uses_what_is_lent};
 ghost use Rattle.dsql_laws_calls.specs.history.Legal.{Lawful};
 ghost use Rattle.dsql_laws_calls.specs.laws.OwedMade.{with_moves};
 ghost use Rattle.dsql_laws_others.specs.Entries.{is_plain};
@@ -25,8 +25,8 @@ pub fn a_reply_touches_no_other_call()
         ≡ due_for history m }
     ensures used { (history : List Event) (n : ℕ) (reply : Reply) → gave_back history n ≡ true
         → uses_what_is_lent (Replied n reply ∷ history) ≡ uses_what_is_lent history }
-    ensures others { (history : List Event) (n : ℕ) (reply : Reply) → goes_on_but n history ≡ true
-        → goes_on (Replied n reply ∷ history) ≡ true }
+    ensures others { (history : List Event) (n : ℕ) (reply : Reply) → calls_stand_but n history ≡ true
+        → calls_stand (Replied n reply ∷ history) ≡ true }
 {}
 
 /// A wait leaves what is due for each call, and lent connections are in use as before. If each other call stood
@@ -34,7 +34,7 @@ pub fn a_reply_touches_no_other_call()
 pub fn a_wait_touches_no_other_call()
     ensures due { (history : List Event) (n m : ℕ) → due_for (Waits n ∷ history) m ≡ due_for history m }
     ensures used { (history : List Event) (n : ℕ) → uses_what_is_lent (Waits n ∷ history) ≡ uses_what_is_lent history }
-    ensures others { (history : List Event) (n : ℕ) → goes_on_but n history ≡ true → goes_on (Waits n ∷ history)
+    ensures others { (history : List Event) (n : ℕ) → calls_stand_but n history ≡ true → calls_stand (Waits n ∷ history)
         ≡ true }
 {}
 
@@ -47,8 +47,8 @@ pub fn a_control_touches_no_call()
         → uses_what_is_lent (with_moves (owed (told control ∷ history)) (told control ∷ history))
         ≡ uses_what_is_lent history }
     ensures others { (history : List Event) (control : Control) (n : ℕ) → Lawful (told control ∷ history)
-        → goes_on_but n history ≡ true
-        → goes_on_but n (with_moves (owed (told control ∷ history)) (told control ∷ history)) ≡ true }
+        → calls_stand_but n history ≡ true
+        → calls_stand_but n (with_moves (owed (told control ∷ history)) (told control ∷ history)) ≡ true }
 {}
 
 /// The beginning of an opening leaves what is due for each call, and lent connections are in use as before. If
@@ -57,8 +57,8 @@ pub fn an_opening_touches_no_other_call()
     ensures due { (history : List Event) (c n m : ℕ) → due_for (Pool (OpenStart c n) ∷ history) m ≡ due_for history m }
     ensures used { (history : List Event) (c n : ℕ) → uses_what_is_lent (Pool (OpenStart c n) ∷ history)
         ≡ uses_what_is_lent history }
-    ensures others { (history : List Event) (c n : ℕ) → Lawful history → goes_on_but n history ≡ true
-        → goes_on (Pool (OpenStart c n) ∷ history) ≡ true }
+    ensures others { (history : List Event) (c n : ℕ) → Lawful history → calls_stand_but n history ≡ true
+        → calls_stand (Pool (OpenStart c n) ∷ history) ≡ true }
 {}
 
 /// An idle connection that begins to close leaves what is due for each call and which connections are in use.
@@ -69,8 +69,8 @@ pub fn an_idle_closing_touches_no_call()
     ensures used { (history : List Event) (c : ℕ) (cause : CloseCause) → place history c ≡ Some Idle
         → uses_what_is_lent (Pool (CloseStart c cause) ∷ history) ≡ uses_what_is_lent history }
     ensures others { (history : List Event) (c n : ℕ) (cause : CloseCause) → place history c ≡ Some Idle
-        → goes_on_but n history
-        ≡ true → goes_on_but n (Pool (CloseStart c cause) ∷ history) ≡ true }
+        → calls_stand_but n history
+        ≡ true → calls_stand_but n (Pool (CloseStart c cause) ∷ history) ≡ true }
 {}
 
 /// A call that enters leaves what is due for each other call and which connections are in use. Each other call
@@ -82,6 +82,6 @@ pub fn an_entry_touches_no_other_call()
     ensures used { (history : List Event) (client n : ℕ) (op : Op) → Lawful (Entered client n op ∷ history)
         → is_plain op ≡ true → uses_what_is_lent (Entered client n op ∷ history) ≡ uses_what_is_lent history }
     ensures others { (history : List Event) (client n : ℕ) (op : Op) → Lawful (Entered client n op ∷ history)
-        → is_plain op ≡ true → goes_on_but n history ≡ true → goes_on_but n (Entered client n op ∷ history)
+        → is_plain op ≡ true → calls_stand_but n history ≡ true → calls_stand_but n (Entered client n op ∷ history)
         ≡ true }
 {}

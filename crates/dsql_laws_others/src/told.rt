@@ -8,7 +8,7 @@ ghost use Rattle.dsql_laws_calls.specs.history.declared.event.Event.TheVariants.
 ghost use Rattle.dsql_laws_calls.specs.history.declared.event.Op.TheVariants.{DbClose};
 ghost use Rattle.dsql_laws_calls.specs.history.Readers.Owed.{owed};
 ghost use Rattle.dsql_laws_calls.specs.history.Readers.Pool.{pool};
-ghost use Rattle.dsql_laws_calls.specs.history.Rules.Settled.{goes_on};
+ghost use Rattle.dsql_laws_calls.specs.history.Rules.Settled.{calls_stand};
 ghost use Rattle.dsql_laws_calls.specs.history.Rules.Stands.{stand};
 ghost use Rattle.dsql_laws_calls.specs.history.Legal.{Lawful};
 ghost use Rattle.dsql_laws_calls.specs.laws.OwedMade.{with_moves};
@@ -32,5 +32,5 @@ pub fn who_is_told_stands_where_it_replies()
 /// still does after the moves that the end makes due.
 pub fn the_end_tells_each_call()
     ensures { (history : List Event) → Lawful (Ended ∷ history)
-        → goes_on (with_moves (owed (Ended ∷ history)) (Ended ∷ history)) ≡ true }
+        → calls_stand (with_moves (owed (Ended ∷ history)) (Ended ∷ history)) ≡ true }
 {}

@@ -19,7 +19,7 @@ use Rattle.dsql_laws_calls.specs.journal.declared.entry.Entry.{Entry}
 use Rattle.dsql_laws_calls.specs.works.declared.work.Aim.{Aim}
 use Rattle.dsql_laws_calls.specs.works.declared.work.Aim.TheVariants as aims
 use Rattle.dsql_laws_calls.specs.works.Exchanges.{exchanges, step_of, got_of, with_exchange}
-use Rattle.dsql_laws_calls.specs.works.Line.{Asked, is_due, run_of, sent_as, run_for, body_after, line_after, handed}
+use Rattle.dsql_laws_calls.specs.works.Line.{Asked, is_due_in_line, run_of, sent_as, run_for, body_after, line_after, handed}
 use Rattle.dsql_laws_calls.proofs.laws_work.KeptRows.{keeps_rows}
 use Rattle.dsql_laws_calls.proofs.laws_work.CallLines.{Step, Start, WasReset, WasSkipped, WasPrepared, HasRows, HasRead, WasDone, step, step_after, goes}
 use Rattle.dsql_laws_calls.proofs.laws_work.MadeLines.{MadeAt, asking, has_text, first_call, first_of, second_of, then_handle, body_before, clean_when_done}
@@ -86,32 +86,32 @@ none_awaited one L count h = by_value (awaits one L count) (awaiting one L count
 
 -- If an answer is needed, a connection is tested only at the end.
 
-run_not_tested : (asked : Asked) (text : List ℕ) → is_due (Some (run_of asked (Text text))) Valid ≡ true → ⊥
+run_not_tested : (asked : Asked) (text : List ℕ) → is_due_in_line (Some (run_of asked (Text text))) Valid ≡ true → ⊥
 run_not_tested asked text h = by_aim asked.aim h
   where
-    by_aim : (x : Aim) → is_due (Some (run_for x (Text text) asked.params)) Valid ≡ true → ⊥
+    by_aim : (x : Aim) → is_due_in_line (Some (run_for x (Text text) asked.params)) Valid ≡ true → ⊥
     by_aim aims.Execute k = cc
     by_aim _ k = cc
 
-first_untested : (can : Caps) (asked : Asked) (w : Wish) → needs_answer can asked.aim ≡ true → is_due (body_after can false asked w []) Valid ≡ true → ⊥
+first_untested : (can : Caps) (asked : Asked) (w : Wish) → needs_answer can asked.aim ≡ true → is_due_in_line (body_after can false asked w []) Valid ≡ true → ⊥
 first_untested can asked w needs h = by_aim asked.aim needs (rw (body_before can asked w [] refl, first_of can asked.text asked.params asked.aim) at h)
   where
-    by_fast : (b : Bool) → is_due (sent_as can asked (cond b due.Text due.Prepare)) Valid ≡ true → ⊥
+    by_fast : (b : Bool) → is_due_in_line (sent_as can asked (cond b due.Text due.Prepare)) Valid ≡ true → ⊥
     by_fast true k = run_not_tested asked asked.text k
     by_fast false k = cc
 
-    by_ping : (b : Bool) → b ≡ true → is_due (sent_as can asked (cond b due.Ping due.Over)) Valid ≡ true → ⊥
+    by_ping : (b : Bool) → b ≡ true → is_due_in_line (sent_as can asked (cond b due.Ping due.Over)) Valid ≡ true → ⊥
     by_ping true can_ping k = cc
     by_ping false can_ping k = cc
 
-    by_aim : (x : Aim) → needs_answer can x ≡ true → is_due (sent_as can asked (first_call x can)) Valid ≡ true → ⊥
+    by_aim : (x : Aim) → needs_answer can x ≡ true → is_due_in_line (sent_as can asked (first_call x can)) Valid ≡ true → ⊥
     by_aim aims.Execute n k = by_fast (has_fast_way courses.Exec can) k
     by_aim aims.ReadOne n k = by_fast (has_fast_way courses.One can) k
     by_aim aims.HandOut n k = by_fast (has_fast_way courses.Query can) k
     by_aim aims.Ping n k = by_ping can.pinger n k
 
 testing_body : (can : Caps) (asked : Asked) (w : Wish) (s : Step) (made : List Exchange) → MadeAt can asked s made → needs_answer can asked.aim ≡ true → goes s Valid ≡ true
-    → is_due (body_after can false asked w made) Valid ≡ true → is_awaiting (is_one asked.aim) s ≡ false
+    → is_due_in_line (body_after can false asked w made) Valid ≡ true → is_awaiting (is_one asked.aim) s ≡ false
 testing_body can asked w Start made m needs g d = absurd (first_untested can asked w needs (rw m at d))
 testing_body can asked w WasReset made m needs g d = absurd (first_untested can asked w needs (rw m at d))
 testing_body can asked w WasDone made m needs g d = refl
@@ -119,7 +119,7 @@ testing_body can asked w (HasRead own rows false) made m needs g d = absurd cc
 testing_body can asked w _ made m needs g d = absurd cc
 
 pub testing : (can : Caps) (reset : Bool) (asked : Asked) (w : Wish) (L : List Entry) → MadeAt can asked (step L) (exchanges L) → needs_answer can asked.aim ≡ true → goes (step L) Valid ≡ true
-    → is_due (line_after can reset asked w L) Valid ≡ true → is_awaiting (is_one asked.aim) (step L) ≡ false
+    → is_due_in_line (line_after can reset asked w L) Valid ≡ true → is_awaiting (is_one asked.aim) (step L) ≡ false
 testing can true asked w [] m needs g d = absurd cc
 testing can false asked w [] m needs g d = absurd (first_untested can asked w needs d)
 testing can reset asked w (e ∷ earlier) m needs g d =
@@ -128,7 +128,7 @@ testing can reset asked w (e ∷ earlier) m needs g d =
 
 -- If a call reads one row itself, its cursor is closed only after a row was fetched.
 freeing_body : (can : Caps) (text : List ℕ) (params : List Param) (aim : Aim) (w : Wish) (s : Step) (made : List Exchange) (rows : ℕ) → MadeAt can (asking text params aim) s made
-    → goes s (CloseRows rows) ≡ true → is_due (body_after can false (asking text params aim) w made) (CloseRows rows) ≡ true → is_awaiting (is_one aim) s ≡ false
+    → goes s (CloseRows rows) ≡ true → is_due_in_line (body_after can false (asking text params aim) w made) (CloseRows rows) ≡ true → is_awaiting (is_one aim) s ≡ false
 freeing_body can text params aims.ReadOne w (HasRows own cursor) made rows m g d = let k = rw m.sends at d in absurd cc
 freeing_body can text params aims.HandOut w (HasRows own cursor) made rows m g d = refl
 freeing_body can text params aims.Ping w (HasRows own cursor) made rows m g d = refl
@@ -138,7 +138,7 @@ freeing_body can text params aim w (HasRead own cursor true) made rows m g d = r
 freeing_body can text params aim w _ made rows m g d = absurd cc
 
 pub freeing : (can : Caps) (reset : Bool) (asked : Asked) (w : Wish) (L : List Entry) (rows : ℕ) → MadeAt can asked (step L) (exchanges L) → goes (step L) (CloseRows rows) ≡ true
-    → is_due (line_after can reset asked w L) (CloseRows rows) ≡ true → is_awaiting (is_one asked.aim) (step L) ≡ false
+    → is_due_in_line (line_after can reset asked w L) (CloseRows rows) ≡ true → is_awaiting (is_one asked.aim) (step L) ≡ false
 freeing can reset asked w [] rows m g d = absurd cc
 freeing can reset asked w (e ∷ earlier) rows m g d =
     let b = body_due can reset asked w e earlier (CloseRows rows) d in
@@ -146,10 +146,10 @@ freeing can reset asked w (e ∷ earlier) rows m g d =
 
 -- A handle is closed after its run, or if it takes another number of parameters.
 
-closes_other : (can : Caps) (asked : Asked) (handle h : ℕ) (b : Bool) → is_due (sent_as can asked (cond b (due.Handle handle) (due.CloseStmt handle))) (CloseStmt h) ≡ true → b ≡ false
+closes_other : (can : Caps) (asked : Asked) (handle h : ℕ) (b : Bool) → is_due_in_line (sent_as can asked (cond b (due.Handle handle) (due.CloseStmt handle))) (CloseStmt h) ≡ true → b ≡ false
 closes_other can asked handle h true k = by_aim asked.aim k
   where
-    by_aim : (x : Aim) → is_due (Some (run_for x (Handle handle) asked.params)) (CloseStmt h) ≡ true → true ≡ false
+    by_aim : (x : Aim) → is_due_in_line (Some (run_for x (Handle handle) asked.params)) (CloseStmt h) ≡ true → true ≡ false
     by_aim aims.Execute m = absurd cc
     by_aim _ m = absurd cc
 closes_other can asked handle h false k = refl
@@ -160,7 +160,7 @@ inputs_in (Some p) = p.1
 
 closing_after : (can : Caps) (asked : Asked) (w : Wish) (one : Bool) (s : Step) (q : DriverCall) (a : DriverAnswer) (made : List Exchange) (h : ℕ)
     → MadeAt can asked (step_after s q a) (with_exchange (step_of q) a made) → goes (step_after s q a) (CloseStmt h) ≡ true
-    → is_due (body_after can false asked w (with_exchange (step_of q) a made)) (CloseStmt h) ≡ true → awaits_after one q a (length asked.params) ≡ false
+    → is_due_in_line (body_after can false asked w (with_exchange (step_of q) a made)) (CloseStmt h) ≡ true → awaits_after one q a (length asked.params) ≡ false
 closing_after can asked w one s q Bad made h m g k = refl
 closing_after can asked w one s Reset a made h m g k = absurd cc
 closing_after can asked w one s (Exec (Text text) params) Skip made h m g k = absurd cc
@@ -177,7 +177,7 @@ closing_after can asked w one s (Prepare text) (Prepared handle inputs) made h m
 closing_after can asked w one s q a made h m g k = refl
 
 pub closing_awaits : (can : Caps) (reset : Bool) (asked : Asked) (w : Wish) (one : Bool) (L : List Entry) (h : ℕ) → MadeAt can asked (step L) (exchanges L) → goes (step L) (CloseStmt h) ≡ true
-    → is_due (line_after can reset asked w L) (CloseStmt h) ≡ true → awaits one L (length asked.params) ≡ false
+    → is_due_in_line (line_after can reset asked w L) (CloseStmt h) ≡ true → awaits one L (length asked.params) ≡ false
 closing_awaits can reset asked w one [] h made g k = absurd cc
 closing_awaits can reset asked w one (e ∷ earlier) h made g k =
     let b = body_due can reset asked w e earlier (CloseStmt h) k in

@@ -26,7 +26,7 @@ use Rattle.dsql_laws_calls.specs.history.declared.work.Work.{Work}
 use Rattle.dsql_laws_calls.specs.history.declared.work.Work.TheVariants.{Execute, ReadOne, HandOut, Ping as Pings, Close}
 use Rattle.dsql_laws_calls.specs.history.Readers.Works.{asks, aim_of}
 use Rattle.dsql_laws_calls.specs.works.Exchanges.{exchanges, step_of, with_exchange}
-use Rattle.dsql_laws_calls.specs.works.Line.{Asked, is_due, line_after}
+use Rattle.dsql_laws_calls.specs.works.Line.{Asked, is_due_in_line, line_after}
 use Rattle.dsql_laws_calls.specs.history.declared.reply.Reply.{Reply}
 use Rattle.dsql_laws_calls.specs.history.declared.reply.Reply.TheVariants.{Cells}
 use Rattle.dsql_laws_calls.specs.history.Readers.Tries.{is_tried}
@@ -119,7 +119,7 @@ cursor_settles again number it rows columns own reads = absurd cc
 
 -- After the answer to a driver call that is due, the reply is settled, or another answer decides.
 pub settled_on : (again : Bool) (number : ℕ) (can : Caps) (reset : Bool) (text : List ℕ) (params : List Param) (it : Work) (w : Wish) (L : List Entry) (q : DriverCall) (a : DriverAnswer) (d : Option Reply) → asks it ≡ true → begins it ≡ false
-    → needs_answer can (aim_of it) ≡ true → (w ≡ wishes.Fetch → ⊥) → SentAt can (asking text params (aim_of it)) w (step L) (exchanges L) q a → is_due (line_after can reset (asking text params (aim_of it)) w L) q ≡ true
+    → needs_answer can (aim_of it) ≡ true → (w ≡ wishes.Fetch → ⊥) → SentAt can (asking text params (aim_of it)) w (step L) (exchanges L) q a → is_due_in_line (line_after can reset (asking text params (aim_of it)) w L) q ≡ true
     → is_some d || awaits (is_one (aim_of it)) L (length params) ≡ true → (is_tried it q && is_bad a) ≡ false → is_some (decision again number (length params) it q a d) || awaits_after (is_one (aim_of it)) q a (length params) ≡ true
 settled_on again number can reset text params it w L Reset Bad d own plain needs fetch x k before good = absurd cc
 settled_on again number can reset text params it w L Reset a d own plain needs fetch x k before good = or_right _ _ refl

@@ -25,7 +25,7 @@ use Rattle.dsql_laws_calls.specs.history.Readers.Transactions.{tx_end, tx_ender,
 use Rattle.dsql_laws_calls.specs.history.Readers.Works.{works, work, borrower, work_of, tx_maker}
 use Rattle.dsql_laws_calls.specs.history.Rules.Ending.{ending}
 use Rattle.dsql_laws_calls.specs.history.Rules.Line.{is_due, is_due_at, due_in, due_for, tidying, parts, may_come, sends_in, due_inside, sends_from}
-use Rattle.dsql_laws_calls.specs.history.Rules.Sent.{line_of, closing, wish, sent_for}
+use Rattle.dsql_laws_calls.specs.history.Rules.Sent.{line_of, close_due, wish, sent_for}
 use Rattle.dsql_laws_calls.specs.history.Legal.{Lawful}
 use Rattle.dsql_laws_calls.proofs.Lent.{stays_lent}
 use Rattle.dsql_laws_calls.proofs.Looks.{heard_there, comes}
@@ -96,7 +96,7 @@ ender_now H e l now ends = by (e.call_no == 0) refl d.due
     d : DueNow H e
     d = due_now H e now
 
-    layer : (b x y : Bool) → (tx_ender H (number_of d.owner) == 0) ≡ x → is_due (cond b (cond x (ending H (number_of d.owner)) None) (cond y (closing H (number_of d.owner)) None)) e.call ≡ true → e.call_no ≡ 0 → Ender H e
+    layer : (b x y : Bool) → (tx_ender H (number_of d.owner) == 0) ≡ x → is_due (cond b (cond x (ending H (number_of d.owner)) None) (cond y (close_due H (number_of d.owner)) None)) e.call ≡ true → e.call_no ≡ 0 → Ender H e
     layer true true y is h none = record { owner = d.owner; lent = d.lent; ender = same_number (tx_ender H (number_of d.owner)) 0 is ∙ sym none }
     layer true false y is h none = absurd cc
     layer false x true is h none = absurd (cond_ending H (number_of d.owner) wishes.Close e.call (are_over H (number_of d.owner)) h ends)

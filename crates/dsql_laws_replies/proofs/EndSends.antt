@@ -36,7 +36,7 @@ use Rattle.dsql_laws_calls.specs.history.Readers.Transactions.{tx_end, tx_ender,
 use Rattle.dsql_laws_calls.specs.history.Readers.Works.{works, work, scope, hands_out_in, aim_of}
 use Rattle.dsql_laws_calls.specs.history.Rules.Ending.{first_closing, end_after, ended_by_call, ending_at, ending_with, ending}
 use Rattle.dsql_laws_calls.specs.history.Rules.Line.{is_due, is_due_at, due_in, due_for, tidying, parts, may_come}
-use Rattle.dsql_laws_calls.specs.history.Rules.Sent.{asked_by, untested, line_of, closing}
+use Rattle.dsql_laws_calls.specs.history.Rules.Sent.{asked_by, untested, line_of, close_due}
 use Rattle.dsql_laws_calls.specs.history.Legal.{Lawful}
 use Rattle.dsql_laws_calls.proofs.Looks.{sent_no_look}
 use Rattle.dsql_laws_calls.proofs.Works as of_works
@@ -71,7 +71,7 @@ handing : (w : Work) (k : ℕ) → hands_out_in k w ≡ true → aim_of w ≡ ai
 handing (HandOut s label) k h = refl
 handing w k h = absurd cc
 
-closing_kind : (H : List Event) (c t : ℕ) (own : Owner) (n : ℕ) (p : DriverCall) → Lawful H → place H c ≡ Some (Lent t own) → is_begun H (number_of own) ≡ true → hands_out_in (number_of own) (work H n) ≡ true → closing H n ≡ Some p → end_kind p ≡ true
+closing_kind : (H : List Event) (c t : ℕ) (own : Owner) (n : ℕ) (p : DriverCall) → Lawful H → place H c ≡ Some (Lent t own) → is_begun H (number_of own) ≡ true → hands_out_in (number_of own) (work H n) ≡ true → close_due H n ≡ Some p → end_kind p ≡ true
 closing_kind H c t own n p l is begun hands h = by (are_over H n) refl h
   where
     can : Caps
@@ -104,12 +104,12 @@ closing_kind H c t own n p l is begun hands h = by (are_over H n) refl h
         with_rows (handed (asked_by H n).aim (line_made H c t n)) refl (ap (λ a. is_some (handed a (line_made H c t n))) (handing (work H n) (number_of own) hands) ∙ held) (sym line ∙ x)
     by false gone x = absurd cc
 
-first_kind : (H : List Event) (k j : ℕ) (ws : List Work) (p : DriverCall) → ((i : ℕ) → hands_out_in k (get_or ws i Look) ≡ true → (q : DriverCall) → closing H (j + i) ≡ Some q → end_kind q ≡ true) → first_closing H k j ws ≡ Some p → end_kind p ≡ true
+first_kind : (H : List Event) (k j : ℕ) (ws : List Work) (p : DriverCall) → ((i : ℕ) → hands_out_in k (get_or ws i Look) ≡ true → (q : DriverCall) → close_due H (j + i) ≡ Some q → end_kind q ≡ true) → first_closing H k j ws ≡ Some p → end_kind p ≡ true
 first_kind H k j [] p each h = absurd cc
-first_kind H k j (w ∷ ws) p each h = by (first_kind H k (j + 1) ws p (λ i hands q x. each (suc i) hands q (ap (closing H) (omega arith) ∙ x))) (hands_out_in k w) (closing H j) refl refl h
+first_kind H k j (w ∷ ws) p each h = by (first_kind H k (j + 1) ws p (λ i hands q x. each (suc i) hands q (ap (close_due H) (omega arith) ∙ x))) (hands_out_in k w) (close_due H j) refl refl h
   where
-    by : (first_closing H k (j + 1) ws ≡ Some p → end_kind p ≡ true) → (b : Bool) (o : Option DriverCall) → hands_out_in k w ≡ b → closing H j ≡ o → or_else (cond b o None) (first_closing H k (j + 1) ws) ≡ Some p → end_kind p ≡ true
-    by rest true (Some q) hands is x = each 0 hands p (ap (closing H) (omega arith) ∙ (is ∙ x))
+    by : (first_closing H k (j + 1) ws ≡ Some p → end_kind p ≡ true) → (b : Bool) (o : Option DriverCall) → hands_out_in k w ≡ b → close_due H j ≡ o → or_else (cond b o None) (first_closing H k (j + 1) ws) ≡ Some p → end_kind p ≡ true
+    by rest true (Some q) hands is x = each 0 hands p (ap (close_due H) (omega arith) ∙ (is ∙ x))
     by rest true None hands is x = rest x
     by rest false o hands is x = rest x
 
@@ -136,7 +136,7 @@ ending_kind H k p l h = by (tx_end H k) refl h
     parts c t own end is number begun None none x = after_kind H (went_bad (journal H c)) end (heard_in H c t) p x
     parts c t own end is number begun (Some q) some x =
         first_kind H k 0 (works H) p
-        (λ i hands y z. closing_kind H c t own i y l is (ap (is_begun H) number ∙ begun) (ap (λ j. hands_out_in j (work H i)) number ∙ hands) (ap (closing H) (omega arith) ∙ z)) (some ∙ x)
+        (λ i hands y z. closing_kind H c t own i y l is (ap (is_begun H) number ∙ begun) (ap (λ j. hands_out_in j (work H i)) number ∙ hands) (ap (close_due H) (omega arith) ∙ z)) (some ∙ x)
 
     at : (c : ℕ) (o : Option Place) (end : TxEnd) → place H c ≡ o → is_begun H k ≡ true → ending_at H k c end o ≡ Some p → end_kind p ≡ true
     at c (Some (Lent t own)) end is begun x = same (number_of own == k) refl x

@@ -14,7 +14,7 @@ use Rattle.dsql_laws_calls.specs.course.declared.course.Course.TheVariants as co
 use Rattle.dsql_laws_calls.specs.course.declared.course.Wish.TheVariants as wishes
 use Rattle.dsql_laws_calls.specs.course.Line.{when, wanted, or_then, first_wanted, steps_left}
 use Rattle.dsql_laws_calls.specs.course.Made.{Exchange, went_bad, own_cursor, own_handle, was_skipped, rows_are_over}
-use Rattle.dsql_laws_calls.specs.course.Rows.{closing, closing_of, rows_next_if}
+use Rattle.dsql_laws_calls.specs.course.Rows.{no_more_wanted, closing_of, rows_next_if}
 use Rattle.dsql_laws_calls.specs.course.Steps.{Step, RunText, PrepareText, RunHandle, FetchRow, CloseCursor, CloseHandle}
 use Rattle.dsql_laws_calls.specs.works.declared.work.Aim.{Aim}
 use Rattle.dsql_laws_calls.specs.works.declared.work.Aim.TheVariants as aims
@@ -60,7 +60,7 @@ close_stmt : (b : Bool) (o : Option (ℕ × ℤ)) (e : Due) → (if b then optio
 close_stmt true (Some r) e h = let x : e ≡ due.CloseStmt r.0 = cc in rw x refl
 close_stmt b o e h = absurd cc
 
-closing_step : (can : Caps) (bad : Bool) (count : ℕ) (made : List Exchange) (s : Step) → of_text s ≡ true → (e : Due) → wanted courses.One can count (closing bad) made s ≡ Some e → is_tidy aims.HandOut e ≡ true
+closing_step : (can : Caps) (bad : Bool) (count : ℕ) (made : List Exchange) (s : Step) → of_text s ≡ true → (e : Due) → wanted courses.One can count (no_more_wanted bad) made s ≡ Some e → is_tidy aims.HandOut e ≡ true
 closing_step can bad count made RunText h e k = by can.fast_query k
   where
     by : (b : Bool) → when (b && false) due.Text ≡ Some e → is_tidy aims.HandOut e ≡ true
@@ -79,11 +79,11 @@ either_tidy : (o : Option Due) (d : Due) → ((e : Due) → o ≡ Some e → is_
 either_tidy None d first later = later
 either_tidy (Some e) d first later = first e refl
 
-closings : (can : Caps) (bad : Bool) (count : ℕ) (made : List Exchange) (ss : List Step) → list_all of_text ss ≡ true → is_tidy aims.HandOut (first_wanted courses.One can count (closing bad) made ss) ≡ true
+closings : (can : Caps) (bad : Bool) (count : ℕ) (made : List Exchange) (ss : List Step) → list_all of_text ss ≡ true → is_tidy aims.HandOut (first_wanted courses.One can count (no_more_wanted bad) made ss) ≡ true
 closings can bad count made [] h = refl
 closings can bad count made (s ∷ ss) h =
     let b = both (of_text s) (list_all of_text ss) h in
-    either_tidy (wanted courses.One can count (closing bad) made s) (first_wanted courses.One can count (closing bad) made ss) (closing_step can bad count made s b.0) (closings can bad count made ss b.1)
+    either_tidy (wanted courses.One can count (no_more_wanted bad) made s) (first_wanted courses.One can count (no_more_wanted bad) made ss) (closing_step can bad count made s b.0) (closings can bad count made ss b.1)
 
 steps_of_text : (made : List Exchange) → list_all of_text (steps_left courses.One made) ≡ true
 steps_of_text [] = refl
@@ -93,7 +93,7 @@ steps_of_text (_ ∷ rest) = refl
 pub closing_tidy : (can : Caps) (bad : Bool) (count : ℕ) (made : List Exchange) → is_tidy aims.HandOut (closing_of courses.Query bad can count made) ≡ true
 closing_tidy can bad count made = by (went_bad made)
   where
-    by : (b : Bool) → is_tidy aims.HandOut (if b then due.Over else first_wanted courses.One can count (closing bad) made (steps_left courses.One made)) ≡ true
+    by : (b : Bool) → is_tidy aims.HandOut (if b then due.Over else first_wanted courses.One can count (no_more_wanted bad) made (steps_left courses.One made)) ≡ true
     by true = refl
     by false = closings can bad count made (steps_left courses.One made) (steps_of_text made)
 

@@ -13,8 +13,7 @@ use Rattle.dsql_laws_calls.specs.journal.Readers.{of_tenure}
 use Rattle.dsql_laws_calls.specs.pool.declared.conn.Place.TheVariants.{Lent}
 use Rattle.dsql_laws_calls.specs.pool.declared.moves.Move.TheVariants.{OpenStart, Lend, Back, CloseStart, Gone, Fell}
 use Rattle.dsql_laws_calls.specs.works.Exchanges.{exchanges}
-use Rattle.dsql_laws_calls.specs.works.Line.{Asked}
-use Rattle.dsql_laws_calls.specs.works.Line as plain
+use Rattle.dsql_laws_calls.specs.works.Line.{Asked, is_due_in_line}
 use Rattle.dsql_laws_calls.proofs.laws_work.CallLines.{step}
 use Rattle.dsql_laws_calls.proofs.laws_work.HandedLines.{SentAt, due_over}
 use Rattle.dsql_laws_calls.proofs.laws_work.Lines.{made_on, goes_due, sent_of}
@@ -131,7 +130,7 @@ own_step H e own l is mine asking due needs good before = by (begins (work H (nu
         let made = f.made e.conn e.tenure own is call in
         let reset = is_reset_due H e.conn in
         let here = line_of_call H e.conn e.tenure own wishes.Nothing l.0 is call in
-        let sent : plain.is_due (call_line H e.conn e.tenure own wishes.Nothing) e.call ≡ true =
+        let sent : is_due_in_line (call_line H e.conn e.tenure own wishes.Nothing) e.call ≡ true =
         plain_due (call_line H e.conn e.tenure own wishes.Nothing) e.call (line_plain (caps H) reset asked wishes.Nothing (heard_in H e.conn e.tenure)) (ap (λ d. is_due d e.call) (sym here) ∙ due)
         in
         let x : SentAt (caps H) asked wishes.Nothing (step (heard_in H e.conn e.tenure)) (exchanges (heard_in H e.conn e.tenure)) e.call e.answer =

@@ -14,7 +14,7 @@ use Rattle.dsql_history.specs.course.declared.call.Due.TheVariants as due
 use Rattle.dsql_history.specs.course.Steps.{Step, RunText, PrepareText, RunHandle, FetchRow, CloseCursor, CloseHandle, steps, step_of}
 use Rattle.dsql_history.specs.course.Made.{Exchange, went_bad, own_handle, own_cursor, has_fast_way, was_skipped, rows_are_over}
 use Rattle.dsql_history.specs.course.Line.{wanted, when, or_then, lets_handle_go, first_wanted, behind_call, steps_left, comes_next}
-use Rattle.dsql_history.specs.course.Rows.{closing, closing_of, rows_next_if, rows_next_of}
+use Rattle.dsql_history.specs.course.Rows.{no_more_wanted, closing_of, rows_next_if, rows_next_of}
 use Rattle.dsql_history.proofs.journal.Conjunctions.{parts2}
 use Rattle.dsql_history.specs.works.declared.work.Aim.{Aim}
 use Rattle.dsql_history.specs.works.declared.work.Aim.TheVariants as aims
@@ -40,7 +40,7 @@ no_when true call d h = absurd cc
 no_when false call d h = absurd cc
 
 -- A course that is stopped only closes.
-step_closes : (can : Caps) (args p : ℕ) (bad : Bool) (made : List Exchange) (s : Step) (d : Due) → nat_lt p (step_place s) ≡ true → wanted courses.One can args (closing bad) made s ≡ Some d → closes d ≡ true
+step_closes : (can : Caps) (args p : ℕ) (bad : Bool) (made : List Exchange) (s : Step) (d : Due) → nat_lt p (step_place s) ≡ true → wanted courses.One can args (no_more_wanted bad) made s ≡ Some d → closes d ≡ true
 step_closes can args p bad made RunText d k is = no_when (has_fast_way courses.One can) due.Text d is
 step_closes can args p bad made PrepareText d k is = no_when (true && (not (has_fast_way courses.One can) || was_skipped made)) due.Prepare d is
 step_closes can args p bad made RunHandle d k is = absurd cc
@@ -54,7 +54,7 @@ step_closes can args p bad made CloseCursor d k is = by_wants (true && not bad) 
     by_wants : (b : Bool) → (if b then option_map (λ rows. due.CloseRows rows) (own_cursor made) else None) ≡ Some d → closes d ≡ true
     by_wants true h = by_own (own_cursor made) h
     by_wants false h = absurd cc
-step_closes can args p bad made CloseHandle d k is = by_wants (lets_handle_go courses.One (closing bad) made && not bad) is
+step_closes can args p bad made CloseHandle d k is = by_wants (lets_handle_go courses.One (no_more_wanted bad) made && not bad) is
   where
     by_own : (o : Option (ℕ × ℤ)) → option_map (λ handle. due.CloseStmt handle.0) o ≡ Some d → closes d ≡ true
     by_own None h = absurd cc
@@ -65,26 +65,26 @@ step_closes can args p bad made CloseHandle d k is = by_wants (lets_handle_go co
     by_wants false h = absurd cc
 step_closes can args p bad made _ d k is = absurd (nothing_below p k)
 
-first_closes : (can : Caps) (args p : ℕ) (bad : Bool) (made : List Exchange) (left : List Step) → list_all (λ s. nat_lt p (step_place s)) left ≡ true → closes (first_wanted courses.One can args (closing bad) made left) ≡ true
+first_closes : (can : Caps) (args p : ℕ) (bad : Bool) (made : List Exchange) (left : List Step) → list_all (λ s. nat_lt p (step_place s)) left ≡ true → closes (first_wanted courses.One can args (no_more_wanted bad) made left) ≡ true
 first_closes can args p bad made [] k = refl
 first_closes can args p bad made (s ∷ left) k =
     let q = parts2 (nat_lt p (step_place s)) (list_all (λ x. nat_lt p (step_place x)) left) k in
-    by_wanted (wanted courses.One can args (closing bad) made s) refl q.0 (first_closes can args p bad made left q.1)
+    by_wanted (wanted courses.One can args (no_more_wanted bad) made s) refl q.0 (first_closes can args p bad made left q.1)
   where
-    by_wanted : (o : Option Due) → wanted courses.One can args (closing bad) made s ≡ o → nat_lt p (step_place s) ≡ true → closes (first_wanted courses.One can args (closing bad) made left) ≡ true
-        → closes (or_then o (first_wanted courses.One can args (closing bad) made left)) ≡ true
+    by_wanted : (o : Option Due) → wanted courses.One can args (no_more_wanted bad) made s ≡ o → nat_lt p (step_place s) ≡ true → closes (first_wanted courses.One can args (no_more_wanted bad) made left) ≡ true
+        → closes (or_then o (first_wanted courses.One can args (no_more_wanted bad) made left)) ≡ true
     by_wanted None is here rest = rest
     by_wanted (Some d) is here rest = step_closes can args p bad made s d here is
 
-next_closes : (can : Caps) (args : ℕ) (bad : Bool) (made : List Exchange) → closes (comes_next courses.One can args (closing bad) made) ≡ true
+next_closes : (can : Caps) (args : ℕ) (bad : Bool) (made : List Exchange) → closes (comes_next courses.One can args (no_more_wanted bad) made) ≡ true
 next_closes can args bad made = by_bad (went_bad made) (by_last made)
   where
-    by_last : (xs : List Exchange) → closes (first_wanted courses.One can args (closing bad) xs (steps_left courses.One xs)) ≡ true
+    by_last : (xs : List Exchange) → closes (first_wanted courses.One can args (no_more_wanted bad) xs (steps_left courses.One xs)) ≡ true
     by_last [] = first_closes can args 0 bad [] (steps courses.One) (all_left courses.One tt)
     by_last (x ∷ xs) = first_closes can args (place x.0) bad (x ∷ xs) (behind_call (step_of x.0) (steps courses.One)) (left_behind courses.One x.0 tt)
 
-    by_bad : (b : Bool) → closes (first_wanted courses.One can args (closing bad) made (steps_left courses.One made)) ≡ true
-        → closes (if b then due.Over else first_wanted courses.One can args (closing bad) made (steps_left courses.One made)) ≡ true
+    by_bad : (b : Bool) → closes (first_wanted courses.One can args (no_more_wanted bad) made (steps_left courses.One made)) ≡ true
+        → closes (if b then due.Over else first_wanted courses.One can args (no_more_wanted bad) made (steps_left courses.One made)) ≡ true
     by_bad true h = refl
     by_bad false h = h
 

@@ -8,7 +8,7 @@ use Rattle.dsql_history.specs.driver.declared.call.DriverCall.TheVariants.{Prepa
 use Rattle.dsql_history.specs.journal.declared.entry.Entry.{Entry}
 use Rattle.dsql_history.specs.journal.declared.entry.Owner.{Owner}
 use Rattle.dsql_history.specs.journal.Kinds.{◌⇒◌}
-use Rattle.dsql_history.specs.journal.Readers.{LiveHandle, LiveCursor, after_next, changed, cursors_after, handles, handles_after, of_tenure}
+use Rattle.dsql_history.specs.journal.Readers.{LiveHandle, LiveCursor, after_next, cursor_changed, cursors_after, handles, handles_after, of_tenure}
 use Rattle.dsql_history.proofs.journal.Conjunctions.{join2, parts2}
 
 all_kept : {X : Type 0} (f keep : X → Bool) (xs : List X) → list_all f xs ≡ true → list_all f (filter keep xs) ≡ true
@@ -21,16 +21,16 @@ all_kept f keep (x ∷ xs) h =
     by_keep true here rest = join2 (f x) (list_all f (filter keep xs)) here rest
     by_keep false here rest = rest
 
-all_changed : (t rows : ℕ) (a : DriverAnswer) (live : List LiveCursor) → list_all (λ x. x.tenure == t) live ≡ true → list_all (λ x. x.tenure == t) (changed rows (after_next a) live) ≡ true
+all_changed : (t rows : ℕ) (a : DriverAnswer) (live : List LiveCursor) → list_all (λ x. x.tenure == t) live ≡ true → list_all (λ x. x.tenure == t) (cursor_changed rows (after_next a) live) ≡ true
 all_changed t rows a [] h = refl
 all_changed t rows a (x ∷ live) h =
     let p = parts2 (x.tenure == t) (list_all (λ y. y.tenure == t) live) h in
     by_number (x.number == rows) p.0 (all_changed t rows a live p.1)
   where
-    by_number : (b : Bool) → (x.tenure == t) ≡ true → list_all (λ y. y.tenure == t) (changed rows (after_next a) live) ≡ true
-        → list_all (λ y. y.tenure == t) (cond b (after_next a x) x ∷ changed rows (after_next a) live) ≡ true
-    by_number true here rest = join2 (x.tenure == t) (list_all (λ y. y.tenure == t) (changed rows (after_next a) live)) here rest
-    by_number false here rest = join2 (x.tenure == t) (list_all (λ y. y.tenure == t) (changed rows (after_next a) live)) here rest
+    by_number : (b : Bool) → (x.tenure == t) ≡ true → list_all (λ y. y.tenure == t) (cursor_changed rows (after_next a) live) ≡ true
+        → list_all (λ y. y.tenure == t) (cond b (after_next a x) x ∷ cursor_changed rows (after_next a) live) ≡ true
+    by_number true here rest = join2 (x.tenure == t) (list_all (λ y. y.tenure == t) (cursor_changed rows (after_next a) live)) here rest
+    by_number false here rest = join2 (x.tenure == t) (list_all (λ y. y.tenure == t) (cursor_changed rows (after_next a) live)) here rest
 
 pub cursors_there : (t : ℕ) (e : Entry) (q : DriverCall) (a : DriverAnswer) (live : List LiveCursor) → (e.tenure == t) ≡ true → list_all (λ x. x.tenure == t) live ≡ true
     → list_all (λ x. x.tenure == t) (cursors_after e q a live) ≡ true

@@ -9,14 +9,14 @@ use Rattle.dsql_history.specs.driver.declared.call.Input.TheVariants.{Text, Hand
 use Rattle.dsql_history.specs.driver.declared.answer.DriverAnswer.{DriverAnswer}
 use Rattle.dsql_history.specs.driver.declared.answer.DriverAnswer.TheVariants.{Cursor, Row}
 use Rattle.dsql_history.specs.driver.Fits.{fits_of}
-use Rattle.dsql_history.specs.driver.Kinds.{cursor_of, is_over, is_work, given_cursor}
+use Rattle.dsql_history.specs.driver.Kinds.{cursor_of, ends_cursor, is_work, given_cursor}
 use Rattle.dsql_history.specs.course.declared.call.Due.{Due}
 use Rattle.dsql_history.specs.course.declared.call.Due.TheVariants as due
 use Rattle.dsql_history.specs.course.declared.call.Got.{Got}
 use Rattle.dsql_history.specs.course.Made.{Exchange, own_cursor, given_cursor as cursor_in, ends_rows, rows_are_over}
 use Rattle.dsql_history.specs.journal.declared.entry.Entry.{Entry}
 use Rattle.dsql_history.specs.journal.Kinds.{if_any, is_number}
-use Rattle.dsql_history.specs.journal.Readers.{LiveCursor, is_empty, cursors_after, changed, after_next}
+use Rattle.dsql_history.specs.journal.Readers.{LiveCursor, is_empty, cursors_after, cursor_changed, after_next}
 use Rattle.dsql_history.specs.works.Exchanges.{got_of, step_of, with_exchange}
 use Rattle.dsql_history.specs.Readers.Lines.{closes_cursor, has_cursor, is_about}
 use Rattle.dsql_laws_tenures.proofs.Numbers.{same_number, is_itself, impossible, true_false, neither, one_less, not_first, none_of, not_none, neither_of}
@@ -102,26 +102,26 @@ opened k t r rows columns e live made same new tenure tx =
       not_over = λ _. refl;
     }
 
-changed-same : (r : ℕ) (f : LiveCursor → LiveCursor) → ((c : LiveCursor) → (f c).number ≡ c.number) → (live : List LiveCursor) → named r (changed r f live) ≡ map f (named r live)
+changed-same : (r : ℕ) (f : LiveCursor → LiveCursor) → ((c : LiveCursor) → (f c).number ≡ c.number) → (live : List LiveCursor) → named r (cursor_changed r f live) ≡ map f (named r live)
 changed-same r f keeps [] = refl
 changed-same r f keeps (c ∷ cs) = by_it (c.number == r) refl (changed-same r f keeps cs)
   where
-    by_it : (b : Bool) → (c.number == r) ≡ b → named r (changed r f cs) ≡ map f (named r cs)
-        → cond ((cond b (f c) c).number == r) (cond b (f c) c ∷ named r (changed r f cs)) (named r (changed r f cs)) ≡ map f (cond b (c ∷ named r cs) (named r cs))
+    by_it : (b : Bool) → (c.number == r) ≡ b → named r (cursor_changed r f cs) ≡ map f (named r cs)
+        → cond ((cond b (f c) c).number == r) (cond b (f c) c ∷ named r (cursor_changed r f cs)) (named r (cursor_changed r f cs)) ≡ map f (cond b (c ∷ named r cs) (named r cs))
     by_it true is rest = rw (keeps c, is, rest) refl
     by_it false is rest = rw (is, rest) refl
 
 -- A Next that ended no rows was answered with a row.
-goes_on : (rows : ℕ) (a : DriverAnswer) → fits_of (Next rows) a ≡ true → ends_rows (due.Next rows, got_of a) ≡ false → is_over a ≡ false
-goes_on rows (Row values) fit h = refl
-goes_on rows a fit h = absurd cc
+gives_more : (rows : ℕ) (a : DriverAnswer) → fits_of (Next rows) a ≡ true → ends_rows (due.Next rows, got_of a) ≡ false → ends_cursor a ≡ false
+gives_more rows (Row values) fit h = refl
+gives_more rows a fit h = absurd cc
 
 no_cursor : (rows : ℕ) (a : DriverAnswer) → fits_of (Next rows) a ≡ true → cursor_in (got_of a) ≡ None
 no_cursor rows (Cursor r columns) fit = absurd (impossible fit)
 no_cursor rows a fit = refl
 
 fetched : (k t r : ℕ) (a : DriverAnswer) (live : List LiveCursor) (before : List Exchange) → fits_of (Next r) a ≡ true → OneLive k t r before live
-    → OneLive k t r ((due.Next r, got_of a) ∷ before) (changed r (after_next a) live)
+    → OneLive k t r ((due.Next r, got_of a) ∷ before) (cursor_changed r (after_next a) live)
 fetched k t r a live before fit one = record {
   cursor = after_next a one.cursor;
   only = rw (changed-same r (after_next a) (λ c. refl) live, one.only) refl;
@@ -129,7 +129,7 @@ fetched k t r a live before fit one = record {
   tx = one.tx;
   not_over = λ o.
       let both = over_more (due.Next r) (got_of a) before o in
-      neither_of one.cursor.over (is_over a) (one.not_over both.1) (goes_on r a fit both.0);
+      neither_of one.cursor.over (ends_cursor a) (one.not_over both.1) (gives_more r a fit both.0);
 }
 
 no_close : (rows : ℕ) (a : DriverAnswer) → fits_of (CloseRows rows) a ≡ true → cursor_in (got_of a) ≡ None

@@ -15,7 +15,7 @@ use Rattle.dsql_history.specs.course.declared.call.Due.{Due}
 use Rattle.dsql_history.specs.course.declared.call.Due.TheVariants as due
 use Rattle.dsql_history.specs.course.Made.{Exchange, own_cursor, rows_are_over}
 use Rattle.dsql_history.specs.course.Line.{comes_next, may_get}
-use Rattle.dsql_history.specs.course.Rows.{closing, closing_of, rows_next_if, rows_next_of}
+use Rattle.dsql_history.specs.course.Rows.{no_more_wanted, closing_of, rows_next_if, rows_next_of}
 use Rattle.dsql_history.specs.journal.Kinds.{◌⇒◌}
 use Rattle.dsql_history.proofs.journal.Conjunctions.{if_so, so_if, parts2, join2}
 use Rattle.dsql_history.specs.works.declared.work.Aim.{Aim}
@@ -74,7 +74,7 @@ rows_send can text params bad wish rows made d q a own o is fit h =
     closes : closing_of courses.Query bad (untested can) (length params) made ≡ d → may_get courses.Query d (got_of a) ≡ true → Fresh courses.Query (untested can) made d (got_of a)
     closes same =
         subst (λ (x : Due). may_get courses.Query x (got_of a) ≡ true → Fresh courses.Query (untested can) made x (got_of a)) same
-        (λ may. comes_fresh courses.One courses.Query (untested can) (length params) (closing bad) made (got_of a) tt refl o may (one_is_tidy (untested can) (length params) (closing bad) made))
+        (λ may. comes_fresh courses.One courses.Query (untested can) (length params) (no_more_wanted bad) made (got_of a) tt refl o may (one_is_tidy (untested can) (length params) (no_more_wanted bad) made))
 
     by_over : (b : Bool) (w : Wish) → rows_are_over made ≡ b → rows_next_if b w (closing_of courses.Query bad (untested can) (length params) made) rows ≡ Some d
         → may_get courses.Query d (got_of a) ≡ true → Fresh courses.Query (untested can) made d (got_of a)

@@ -15,7 +15,7 @@ use Rattle.dsql_history.specs.driver.Kinds.{given_cursor}
 use Rattle.dsql_history.specs.course.Made.{Exchange}
 use Rattle.dsql_history.specs.journal.declared.entry.Entry.{Entry}
 use Rattle.dsql_history.specs.journal.Kinds.{◌⇒◌}
-use Rattle.dsql_history.specs.journal.Readers.{LiveCursor, cursors, cursors_after, changed, after_next}
+use Rattle.dsql_history.specs.journal.Readers.{LiveCursor, cursors, cursors_after, cursor_changed, after_next}
 use Rattle.dsql_history.specs.journal.Tenure.{has_closed_cursors}
 use Rattle.dsql_history.proofs.journal.Conjunctions.{if_so, parts2, join2}
 use Rattle.dsql_history.specs.works.Exchanges.{step_of, with_exchange}
@@ -37,7 +37,7 @@ each_on P Q [] carry all = tt
 each_on P Q (c ∷ cs) carry all = (carry c all.0, each_on P Q cs carry all.1)
 
 each_changed : (P Q : LiveCursor → Type 0) (rows : ℕ) (f : LiveCursor → LiveCursor) (live : List LiveCursor) → ((c : LiveCursor) → P c → Q c) → ((c : LiveCursor) → Q c → Q (f c))
-    → AllByRecursion P live → AllByRecursion Q (changed rows f live)
+    → AllByRecursion P live → AllByRecursion Q (cursor_changed rows f live)
 each_changed P Q rows f [] carry on all = tt
 each_changed P Q rows f (c ∷ cs) carry on all = (by_it (c.number == rows) (carry c all.0), each_changed P Q rows f cs carry on all.1)
   where

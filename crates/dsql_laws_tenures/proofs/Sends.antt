@@ -14,7 +14,7 @@ use Rattle.dsql_history.specs.course.declared.call.Due.TheVariants as due
 use Rattle.dsql_history.specs.course.declared.call.Got.{Got}
 use Rattle.dsql_history.specs.course.Made.{Exchange, own_cursor, ends_rows, rows_are_over}
 use Rattle.dsql_history.specs.course.Line.{comes_next}
-use Rattle.dsql_history.specs.course.Rows.{closing, closing_of, rows_next_if, rows_next_of}
+use Rattle.dsql_history.specs.course.Rows.{no_more_wanted, closing_of, rows_next_if, rows_next_of}
 use Rattle.dsql_history.specs.works.declared.work.Aim.{Aim}
 use Rattle.dsql_history.specs.works.declared.work.Aim.TheVariants as aims
 use Rattle.dsql_history.specs.works.Line.{Asked, sent_as, sent_over, found, body_with, body_after}
@@ -46,7 +46,7 @@ rows_names : (bad : Bool) (wish : Wish) (can : Caps) (args r : ℕ) (made : List
 rows_names bad wish can args r made d own order is = by_over (rows_are_over made) wish refl is
   where
     close : Names made bad (closing_of courses.Query bad can args made)
-    close = next_names courses.One can args (closing bad) made tt order
+    close = next_names courses.One can args (no_more_wanted bad) made tt order
 
     by_over : (b : Bool) (w : Wish) → rows_are_over made ≡ b → rows_next_if b w (closing_of courses.Query bad can args made) r ≡ Some d → Names made bad d
     by_over true w over h = some_is (Names made bad) (closing_of courses.Query bad can args made) d close h

@@ -26,10 +26,10 @@ use Rattle.dsql_history.proofs.journal.PlainJournals.{Good, Good-connect, Plain-
 use Rattle.dsql_history.proofs.journal.Sentences.{MayFollow-of}
 use Rattle.dsql_history.proofs.journal.Tenures.{of_tenure-new}
 use Rattle.dsql_history.specs.works.Exchanges.{exchanges}
-use Rattle.dsql_history.specs.works.Line.{Asked, is_due, line_after}
+use Rattle.dsql_history.specs.works.Line.{Asked, is_due_in_line, line_after}
 use Rattle.dsql_laws_work.proofs.CallLines.{SoFar, is_sent, sent_entry, step}
 use Rattle.dsql_laws_work.proofs.Lines as first
-use Rattle.dsql_laws_work.proofs.Lines.{is_over, sent_of}
+use Rattle.dsql_laws_work.proofs.Lines.{sends_no_more, sent_of}
 use Rattle.dsql_laws_work.proofs.MadeLines.{MadeAt}
 use Rattle.dsql_laws_tenures.proofs.Numbers.{is_itself}
 use Rattle.dsql_laws_tenures.specs.Connections.{IsAlone, IsQuiet}
@@ -96,7 +96,7 @@ pub whole_there : (c t n : ℕ) (J : List Entry) → Serves c t n J → is_whole
 whole_there c t n J s whole = let v = s.serves in first_whole c t J v.served.none_begun s.live s.open_rows (same_bad c t n J s) whole
 
 -- As long as the call sends more, no answer was Bad or Invalid.
-pub serves_good : (c t n : ℕ) (J : List Entry) → Serves c t n J → is_over (of_tenure t J) ≡ false → Good J
+pub serves_good : (c t n : ℕ) (J : List Entry) → Serves c t n J → sends_no_more (of_tenure t J) ≡ false → Good J
 serves_good c t n J s over =
     let v = s.serves in
     let good : Good (as_first c t J) = v.good (rw (same_tenure c t n J s) over) in
@@ -133,11 +133,11 @@ sent_later q h = absurd cc
 module _ (c t n m : ℕ) (J : List Entry) (can : Caps) (reset : Bool) (asked : Asked) (w : Wish) where
   -- A driver call that is due may follow, with each answer that fits there.
   pub may_follow-due : (q : DriverCall) (a : DriverAnswer) → Serves c t n J → MadeAt can asked (step (of_tenure t J)) (exchanges (of_tenure t J))
-      → is_due (line_after can reset asked w (of_tenure t J)) q ≡ true → fits_at_its_place J (sent_entry c t n m q a) ≡ true → may_follow J (sent_entry c t n m q a) ≡ true
+      → is_due_in_line (line_after can reset asked w (of_tenure t J)) q ≡ true → fits_at_its_place J (sent_entry c t n m q a) ≡ true → may_follow J (sent_entry c t n m q a) ≡ true
   may_follow-due q a s made due fits =
       let F : List Entry = as_first c t J in
       let same = same_tenure c t n J s in
-      let over : is_over (of_tenure t J) ≡ false = first.due_while can reset asked w (of_tenure t J) (first.some_of (line_after can reset asked w (of_tenure t J)) q due) in
+      let over : sends_no_more (of_tenure t J) ≡ false = first.due_while can reset asked w (of_tenure t J) (first.some_of (line_after can reset asked w (of_tenure t J)) q due) in
       let good = serves_good c t n J s over in
       let there : may_follow F (sent_entry c t n m q a) ≡ true =
       first.may_follow-due c t n m F can reset asked w q a s.serves (rw same made) (rw same due) (rw (← s.live, ← s.open_rows) fits) in
@@ -147,7 +147,7 @@ module _ (c t n m : ℕ) (J : List Entry) (can : Caps) (reset : Bool) (asked : A
 
   -- After a driver call that was due, the connection serves on.
   pub serves_on : (q : DriverCall) (a : DriverAnswer) → Serves c t n J → MadeAt can asked (step (of_tenure t J)) (exchanges (of_tenure t J))
-      → is_due (line_after can reset asked w (of_tenure t J)) q ≡ true → may_follow J (sent_entry c t n m q a) ≡ true → Serves c t n (sent_entry c t n m q a ∷ J)
+      → is_due_in_line (line_after can reset asked w (of_tenure t J)) q ≡ true → may_follow J (sent_entry c t n m q a) ≡ true → Serves c t n (sent_entry c t n m q a ∷ J)
   serves_on q a s made due may =
       let same = same_tenure c t n J s in
       let f : MayFollow J (sent_entry c t n m q a) = MayFollow-of J (sent_entry c t n m q a) may in

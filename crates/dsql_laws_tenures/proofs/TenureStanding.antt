@@ -17,7 +17,7 @@ use Rattle.dsql_history.proofs.journal.PlainJournals.{went_bad-in}
 use Rattle.dsql_history.proofs.journal.Sentences.{MayFollow-of}
 use Rattle.dsql_history.specs.works.Exchanges.{exchanges}
 use Rattle.dsql_history.specs.works.Journals.{ends_invalid}
-use Rattle.dsql_history.specs.works.Line.{Asked, is_due, line_after}
+use Rattle.dsql_history.specs.works.Line.{Asked, is_due_in_line, line_after}
 use Rattle.dsql_laws_work.proofs.CallLines.{sent_entry, step}
 use Rattle.dsql_laws_work.proofs.KeptRows.{keeps_rows}
 use Rattle.dsql_laws_work.proofs.Lines.{ends_bad, none_left, sent_entry_of}
@@ -134,7 +134,7 @@ tx_of_call n J e may owner =
 -- The next driver call of the call keeps the connection lent to it.
 pub works_heard : (c l t n m : ℕ) (J : List Entry) (e : Entry) (can : Caps) (reset : Bool) (asked : Asked) (w : Wish) → Works c l t n J
     → MadeAt can asked (step (of_tenure t J)) (exchanges (of_tenure t J)) → may_follow J e ≡ true → e.conn ≡ c → e.tenure ≡ t → e.owner ≡ Call n → e.call_no ≡ m
-    → is_due (line_after can reset asked w (of_tenure t J)) e.call ≡ true → Works c l t n (e ∷ J)
+    → is_due_in_line (line_after can reset asked w (of_tenure t J)) e.call ≡ true → Works c l t n (e ∷ J)
 works_heard c l t n m J e can reset asked w s made may conn tenure owner number due =
     let is : e ≡ sent_entry c t n m e.call e.answer = sent_entry_of c t n m e conn tenure owner number (tx_of_call n J e may owner) in
     record {

@@ -8,7 +8,7 @@ use Rattle.dsql_history.specs.driver.declared.call.DriverCall.TheVariants.{Prepa
 use Rattle.dsql_history.specs.driver.declared.answer.DriverAnswer.{DriverAnswer}
 use Rattle.dsql_history.specs.driver.declared.answer.DriverAnswer.TheVariants.{Prepared, Cursor}
 use Rattle.dsql_history.specs.journal.declared.entry.Entry.{Entry}
-use Rattle.dsql_history.specs.journal.Readers.{LiveHandle, LiveCursor, handles_after, cursors_after, changed, after_next}
+use Rattle.dsql_history.specs.journal.Readers.{LiveHandle, LiveCursor, handles_after, cursors_after, cursor_changed, after_next}
 
 -- Is true if the driver call opens the cursor, fetches from it or closes it.
 abbrev pub touches_cursor : ℕ → DriverCall → DriverAnswer → Bool
@@ -32,12 +32,12 @@ prepared n live = filter (λ h. h.number == n) live
 is_off : (a r s : ℕ) → (s == r) ≡ false → (a == s) ≡ true → (a == r) ≡ false
 is_off a r s h is = grind (arith, nat_tests)
 
-changed-other : (r s : ℕ) (f : LiveCursor → LiveCursor) → ((c : LiveCursor) → (f c).number ≡ c.number) → (live : List LiveCursor) → (s == r) ≡ false → named r (changed s f live) ≡ named r live
+changed-other : (r s : ℕ) (f : LiveCursor → LiveCursor) → ((c : LiveCursor) → (f c).number ≡ c.number) → (live : List LiveCursor) → (s == r) ≡ false → named r (cursor_changed s f live) ≡ named r live
 changed-other r s f keeps [] h = refl
 changed-other r s f keeps (c ∷ cs) h = by_it (c.number == s) refl (changed-other r s f keeps cs h)
   where
-    by_it : (b : Bool) → (c.number == s) ≡ b → named r (changed s f cs) ≡ named r cs
-        → cond ((cond b (f c) c).number == r) (cond b (f c) c ∷ named r (changed s f cs)) (named r (changed s f cs)) ≡ cond (c.number == r) (c ∷ named r cs) (named r cs)
+    by_it : (b : Bool) → (c.number == s) ≡ b → named r (cursor_changed s f cs) ≡ named r cs
+        → cond ((cond b (f c) c).number == r) (cond b (f c) c ∷ named r (cursor_changed s f cs)) (named r (cursor_changed s f cs)) ≡ cond (c.number == r) (c ∷ named r cs) (named r cs)
     by_it true is rest = rw (keeps c, is_off c.number r s h is, rest) refl
     by_it false is rest = rw rest refl
 

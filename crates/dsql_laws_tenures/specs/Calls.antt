@@ -11,7 +11,7 @@ use Rattle.dsql_history.specs.journal.Kinds.{is_number}
 use Rattle.dsql_history.specs.journal.Journal.{IsJournalPrefix}
 use Rattle.dsql_history.specs.journal.Readers.{LiveCursor, last_tenure}
 use Rattle.dsql_history.specs.works.declared.work.Aim.{Aim}
-use Rattle.dsql_history.specs.works.Line.{Asked, handed, is_due, line_after}
+use Rattle.dsql_history.specs.works.Line.{Asked, handed, is_due_in_line, line_after}
 use Rattle.dsql_laws_tenures.specs.Connections.{IsQuiet}
 
 -- Holds if the entry is in tenure t of connection c, which is lent to call n, and in no transaction. A call
@@ -25,7 +25,7 @@ pub record IsOfCall (c t n : ℕ) (e : Entry) : Type 0 where
 -- Holds if the entry was due after what was heard earlier in the tenure, for some wish of the rows.
 pub record WasDue (can : Caps) (reset_due : Bool) (asked : Asked) (e : Entry) (earlier : List Entry) : Type 0 where
   pub wish : Wish
-  pub due : is_due (line_after can reset_due asked wish earlier) e.call ≡ true
+  pub due : is_due_in_line (line_after can reset_due asked wish earlier) e.call ≡ true
 
 -- Holds if these entries, newest first, were each due when they were sent in the tenure.
 abbrev pub WereSent : Caps → Bool → Asked → ℕ → ℕ → ℕ → List Entry → Type 0

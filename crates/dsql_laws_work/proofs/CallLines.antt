@@ -14,7 +14,7 @@ use Rattle.dsql_history_work.specs.driver.Fits.{is_skip}
 use Rattle.dsql_history_work.specs.journal.declared.entry.Entry.{Entry}
 use Rattle.dsql_history_work.specs.journal.declared.entry.Owner.TheVariants.{Call}
 use Rattle.dsql_history_work.specs.journal.Kinds.{◌⇒◌, is_number}
-use Rattle.dsql_history_work.specs.driver.Kinds.{is_ping, is_prepare, is_valid, is_over, runs_text, given_handle, given_cursor}
+use Rattle.dsql_history_work.specs.driver.Kinds.{is_ping, is_prepare, is_valid, ends_cursor, runs_text, given_handle, given_cursor}
 use Rattle.dsql_history_work.specs.journal.Readers.{LiveHandle, LiveCursor, handles, cursors}
 use Rattle.dsql_history_work.specs.journal.Tenure.{is_body, place}
 
@@ -73,7 +73,7 @@ step_after s (Prepare text) answer = WasDone
 step_after s (Exec (Handle handle) params) answer = WasRun handle
 step_after s (Query (Handle handle) params) (Cursor rows columns) = HasRows (Some handle) rows
 step_after s (Query (Handle handle) params) answer = WasRun handle
-step_after s (Next rows) answer = read_after s (is_over answer)
+step_after s (Next rows) answer = read_after s (ends_cursor answer)
 step_after s (CloseRows rows) answer = freed_after s
 step_after s (CloseStmt handle) answer = WasDone
 step_after s Valid answer = WasTested

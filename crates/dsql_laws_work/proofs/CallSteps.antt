@@ -13,7 +13,7 @@ use Rattle.dsql_history_work.specs.driver.Fits.{is_skip}
 use Rattle.dsql_history_work.specs.value.declared.value.Param.{Param}
 use Rattle.dsql_history_work.specs.journal.declared.entry.Entry.{Entry}
 use Rattle.dsql_history_work.specs.journal.Kinds.{◌⇒◌, is_number}
-use Rattle.dsql_history_work.specs.driver.Kinds.{is_ping, is_prepare, is_valid, is_over, runs_text, given_handle, given_cursor}
+use Rattle.dsql_history_work.specs.driver.Kinds.{is_ping, is_prepare, is_valid, ends_cursor, runs_text, given_handle, given_cursor}
 use Rattle.dsql_history_work.specs.journal.Readers.{LiveHandle, LiveCursor, handles, handles_after, cursors, cursors_after}
 use Rattle.dsql_history_work.specs.journal.Tenure.{is_body, place}
 use Rattle.dsql_history_work.proofs.journal.Conjunctions.{parts2, join2}
@@ -240,13 +240,13 @@ opened_on : (here later : Bool) → later ≡ true → here || later ≡ true
 opened_on here later h = grind (arith, h)
 
 reads : (c t n m rows : ℕ) (s : Step) (a : DriverAnswer) (L : List Entry) → SoFar t n s L → goes s (Next rows) ≡ true
-    → SoFar t n (read_after s (is_over a)) (sent_entry c t n m (Next rows) a ∷ L)
+    → SoFar t n (read_after s (ends_cursor a)) (sent_entry c t n m (Next rows) a ∷ L)
 reads c t n m rows (HasRows own given) a L so g =
-    so_far-with c t n m (HasRows own given) (HasRead own given (is_over a)) (Next rows) a L so (omega arith) refl refl refl (λ h. refl) (λ h. absurd cc)
+    so_far-with c t n m (HasRows own given) (HasRead own given (ends_cursor a)) (Next rows) a L so (omega arith) refl refl refl (λ h. refl) (λ h. absurd cc)
     (gave_own c t n m (Next rows) a own L refl so.given.0, opened_on (is_number (given_cursor a) given) (opened given L) so.given.1) so.live
     (record { columns = so.open_rows.columns; is = rw (so.open_rows.is, g) refl }) (λ h. absurd cc)
 reads c t n m rows (HasRead own given false) a L so g =
-    so_far-with c t n m (HasRead own given false) (HasRead own given (is_over a)) (Next rows) a L so (omega arith) refl refl refl (λ h. refl) (λ h. absurd cc)
+    so_far-with c t n m (HasRead own given false) (HasRead own given (ends_cursor a)) (Next rows) a L so (omega arith) refl refl refl (λ h. refl) (λ h. absurd cc)
     (gave_own c t n m (Next rows) a own L refl so.given.0, opened_on (is_number (given_cursor a) given) (opened given L) so.given.1) so.live
     (record { columns = so.open_rows.columns; is = rw (so.open_rows.is, g) refl }) (λ h. absurd cc)
 reads c t n m rows _ a L so g = absurd cc

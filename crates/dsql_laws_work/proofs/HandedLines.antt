@@ -21,7 +21,7 @@ use Rattle.dsql_history_work.specs.rows.OpenRows.{is_live, ended_by}
 use Rattle.dsql_history_work.specs.declared.work.Aim.{Aim}
 use Rattle.dsql_history_work.specs.declared.work.Aim.TheVariants as aims
 use Rattle.dsql_history_work.specs.Exchanges.{exchanges, step_of, with_exchange}
-use Rattle.dsql_history_work.specs.Line.{Asked, handed, body_after, line_after, test_of, is_due}
+use Rattle.dsql_history_work.specs.Line.{Asked, handed, body_after, line_after, test_of, is_due_in_line}
 use Rattle.dsql_laws_work.proofs.CallLines.{Step, WasSkipped, WasPrepared, HasRows, HasRead, WasRun, WasDone, WasTested, WasDropped, IsOther, step, step_after, goes, is_sent}
 use Rattle.dsql_laws_work.proofs.MadeLines.{MadeAt, asking, is_ended, ended_by as still_going, open_sends, sends_open, sends_over}
 
@@ -42,20 +42,20 @@ SentOver (CloseStmt handle) w over = over ≡ true
 SentOver Valid w over = over ≡ true
 SentOver _ w over = ⊥
 
-of_open : (w : Wish) (rows : ℕ) (q : DriverCall) (over : Bool) → over ≡ false → is_due (open_sends w rows) q ≡ true → SentOver q w over
+of_open : (w : Wish) (rows : ℕ) (q : DriverCall) (over : Bool) → over ≡ false → is_due_in_line (open_sends w rows) q ≡ true → SentOver q w over
 of_open wishes.Fetch rows (Next other) over o h = (refl, o)
 of_open wishes.Close rows (CloseRows other) over o h = inr refl
 of_open _ rows _ over o h = absurd cc
 
-of_over : (w : Wish) (rows : ℕ) (q : DriverCall) (over : Bool) → over ≡ true → is_due (Some (CloseRows rows)) q ≡ true → SentOver q w over
+of_over : (w : Wish) (rows : ℕ) (q : DriverCall) (over : Bool) → over ≡ true → is_due_in_line (Some (CloseRows rows)) q ≡ true → SentOver q w over
 of_over w rows (CloseRows other) over o h = inl o
 of_over w rows _ over o h = absurd cc
 
-of_run : (w : Wish) (handle : ℕ) (q : DriverCall) (over : Bool) → over ≡ true → is_due (Some (CloseStmt handle)) q ≡ true → SentOver q w over
+of_run : (w : Wish) (handle : ℕ) (q : DriverCall) (over : Bool) → over ≡ true → is_due_in_line (Some (CloseStmt handle)) q ≡ true → SentOver q w over
 of_run w handle (CloseStmt other) over o h = o
 of_run w handle _ over o h = absurd cc
 
-of_test : (w : Wish) (b : Bool) (q : DriverCall) (over : Bool) → over ≡ true → is_due (cond b (Some Valid) None) q ≡ true → SentOver q w over
+of_test : (w : Wish) (b : Bool) (q : DriverCall) (over : Bool) → over ≡ true → is_due_in_line (cond b (Some Valid) None) q ≡ true → SentOver q w over
 of_test w true Valid over o h = o
 of_test w true _ over o h = absurd cc
 of_test w false q over o h = absurd cc
@@ -74,17 +74,17 @@ is_true true h = refl
 is_true false h = absurd (h refl)
 
 handing : (can : Caps) (text : List ℕ) (params : List Param) (w : Wish) (s : Step) (made : List Exchange) (q : DriverCall) (rows : ℕ) → own_cursor made ≡ Some rows
-    → MadeAt can (asking text params aims.HandOut) s made → is_ended s ≡ false → is_due (body_after can false (asking text params aims.HandOut) w made) q ≡ true
+    → MadeAt can (asking text params aims.HandOut) s made → is_ended s ≡ false → is_due_in_line (body_after can false (asking text params aims.HandOut) w made) q ≡ true
     → SentOver q w (rows_are_over made)
 handing can text params w WasSkipped made q rows h m e d = absurd (none_some (own_cursor made) rows (ap own_cursor m.0) h)
 handing can text params w (WasPrepared handle) made q rows h m e d = absurd (none_some (own_cursor made) rows m.none h)
 handing can text params w (HasRows own cursor) made q rows h m e d =
-    of_open w cursor q (rows_are_over made) m.is_over (rw (sends_open can text params w own cursor (due.Next cursor) made m) at d)
+    of_open w cursor q (rows_are_over made) m.are_over (rw (sends_open can text params w own cursor (due.Next cursor) made m) at d)
 handing can text params w (HasRead own cursor false) made q rows h m e d =
-    of_open w cursor q (rows_are_over made) m.is_over (rw (sends_open can text params w own cursor (due.CloseRows cursor) made m) at d)
+    of_open w cursor q (rows_are_over made) m.are_over (rw (sends_open can text params w own cursor (due.CloseRows cursor) made m) at d)
 handing can text params w (HasRead own cursor true) made q rows h m e d =
-    of_over w cursor q (rows_are_over made) m.is_over (rw (sends_over can text params w own cursor (due.CloseRows cursor) made m) at d)
-handing can text params w (WasRun handle) made q rows h m e d = of_run w handle q (rows_are_over made) (m.is_over rows h) (rw (m.sends w) at d)
+    of_over w cursor q (rows_are_over made) m.are_over (rw (sends_over can text params w own cursor (due.CloseRows cursor) made m) at d)
+handing can text params w (WasRun handle) made q rows h m e d = of_run w handle q (rows_are_over made) (m.are_over rows h) (rw (m.sends w) at d)
 handing can text params w WasDone made q rows h m e d =
     of_test w can.validator q (rows_are_over made) (is_true (rows_are_over made) (λ open_rows. not_done can text params made rows h open_rows (m wishes.Fetch))) (rw (m w) at d)
 handing can text params w WasTested made q rows h m e d = absurd cc
@@ -93,17 +93,17 @@ handing can text params w IsOther made q rows h m e d = absurd m
 handing can text params w _ made q rows h m e d = absurd (none_some (own_cursor made) rows (ap own_cursor m) h)
 
 over_rows : (can : Caps) (text : List ℕ) (params : List Param) (aim : Aim) (w : Wish) (s : Step) (made : List Exchange) (q : DriverCall) (rows : ℕ) → handed aim made ≡ Some rows
-    → MadeAt can (asking text params aim) s made → is_ended s ≡ false → is_due (body_after can false (asking text params aim) w made) q ≡ true → SentOver q w (rows_are_over made)
+    → MadeAt can (asking text params aim) s made → is_ended s ≡ false → is_due_in_line (body_after can false (asking text params aim) w made) q ≡ true → SentOver q w (rows_are_over made)
 over_rows can text params aims.HandOut w s made q rows h m e d = handing can text params w s made q rows h m e d
 over_rows can text params _ w s made q rows h m e d = absurd (cc)
 
 -- A driver call that is due after rows were handed out may be sent over them.
 pub due_over : (can : Caps) (reset : Bool) (asked : Asked) (w : Wish) (L : List Entry) (q : DriverCall) (rows : ℕ) → handed asked.aim (exchanges L) ≡ Some rows
-    → MadeAt can asked (step L) (exchanges L) → is_due (line_after can reset asked w L) q ≡ true → SentOver q w (rows_are_over (exchanges L))
+    → MadeAt can asked (step L) (exchanges L) → is_due_in_line (line_after can reset asked w L) q ≡ true → SentOver q w (rows_are_over (exchanges L))
 due_over can reset asked w [] q rows h m d = absurd (none_handed asked.aim [] rows refl h)
 due_over can reset asked w (e ∷ earlier) q rows h m d = by_end (is_bad e.answer || is_valid e.call) refl d
   where
-    by_end : (b : Bool) → is_bad e.answer || is_valid e.call ≡ b → is_due (cond b None (body_after can false asked w (exchanges (e ∷ earlier)))) q ≡ true
+    by_end : (b : Bool) → is_bad e.answer || is_valid e.call ≡ b → is_due_in_line (cond b None (body_after can false asked w (exchanges (e ∷ earlier)))) q ≡ true
         → SentOver q w (rows_are_over (exchanges (e ∷ earlier)))
     by_end true is k = absurd cc
     by_end false is k =

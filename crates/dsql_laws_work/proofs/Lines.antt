@@ -24,7 +24,7 @@ use Rattle.dsql_history_work.proofs.journal.Tenures.{of_tenure-new}
 use Rattle.dsql_history_work.proofs.journal.PlainJournals.{Plain, Good, Good-with, of_tenure-with}
 use Rattle.dsql_history_work.specs.Journals.{ends_invalid}
 use Rattle.dsql_history_work.specs.Exchanges.{exchanges, step_of, with_exchange}
-use Rattle.dsql_history_work.specs.Line.{Asked, line_after, body_after, is_due}
+use Rattle.dsql_history_work.specs.Line.{Asked, line_after, body_after, is_due_in_line}
 use Rattle.dsql_laws_work.proofs.KeptRows.{keeps_rows}
 use Rattle.dsql_laws_work.proofs.CallLines.{Step, Start, WasPrepared, HasRows, HasRead, WasRun, WasDropped, IsOther, step, step_after, goes, SoFar, sent_entry, so_far-start, is_sent}
 use Rattle.dsql_laws_work.proofs.CallSteps.{so_far-next}
@@ -35,11 +35,11 @@ use Rattle.dsql_laws_work.proofs.MadeLines.{MadeAt, is_ended, ended_by, is_clean
 use Rattle.dsql_laws_work.proofs.MadeNext.{made_next, made_reset}
 
 -- Is true if the tenure sends nothing more.
-abbrev pub is_over : List Entry → Bool
-is_over [] = false
-is_over (e ∷ earlier) = is_bad e.answer || is_valid e.call
+abbrev pub sends_no_more : List Entry → Bool
+sends_no_more [] = false
+sends_no_more (e ∷ earlier) = is_bad e.answer || is_valid e.call
 
-pub sent_of : (d : Option DriverCall) (call : DriverCall) → is_due d call ≡ true → is_sent call ≡ true
+pub sent_of : (d : Option DriverCall) (call : DriverCall) → is_due_in_line d call ≡ true → is_sent call ≡ true
 sent_of (Some Reset) Reset h = refl
 sent_of (Some Valid) Valid h = refl
 sent_of (Some Ping) Ping h = refl
@@ -53,12 +53,12 @@ sent_of (Some (CloseRows rows)) (CloseRows other) h = refl
 sent_of (Some (CloseStmt handle)) (CloseStmt other) h = refl
 sent_of _ _ h = absurd cc
 
-pub some_of : (d : Option DriverCall) (call : DriverCall) → is_due d call ≡ true → is_some d ≡ true
+pub some_of : (d : Option DriverCall) (call : DriverCall) → is_due_in_line d call ≡ true → is_some d ≡ true
 some_of None call h = absurd cc
 some_of (Some q) call h = refl
 
 -- If a driver call is due, the tenure isn't over.
-pub due_while : (can : Caps) (reset : Bool) (asked : Asked) (w : Wish) (L : List Entry) → is_some (line_after can reset asked w L) ≡ true → is_over L ≡ false
+pub due_while : (can : Caps) (reset : Bool) (asked : Asked) (w : Wish) (L : List Entry) → is_some (line_after can reset asked w L) ≡ true → sends_no_more L ≡ false
 due_while can reset asked w [] h = refl
 due_while can reset asked w (e ∷ earlier) h = by_end (is_bad e.answer || is_valid e.call) h
   where
@@ -67,29 +67,29 @@ due_while can reset asked w (e ∷ earlier) h = by_end (is_bad e.answer || is_va
     by_end false k = refl
 
 -- A driver call that is due after an entry is what the course sends.
-pub body_due : (can : Caps) (reset : Bool) (asked : Asked) (w : Wish) (e : Entry) (earlier : List Entry) (call : DriverCall) → is_due (line_after can reset asked w (e ∷ earlier)) call ≡ true
-    → (is_bad e.answer || is_valid e.call ≡ false) × (is_due (body_after can false asked w (exchanges (e ∷ earlier))) call ≡ true)
+pub body_due : (can : Caps) (reset : Bool) (asked : Asked) (w : Wish) (e : Entry) (earlier : List Entry) (call : DriverCall) → is_due_in_line (line_after can reset asked w (e ∷ earlier)) call ≡ true
+    → (is_bad e.answer || is_valid e.call ≡ false) × (is_due_in_line (body_after can false asked w (exchanges (e ∷ earlier))) call ≡ true)
 body_due can reset asked w e earlier call h = by_end (is_bad e.answer || is_valid e.call) h
   where
-    by_end : (b : Bool) → is_due (cond b None (body_after can false asked w (exchanges (e ∷ earlier)))) call ≡ true
-        → (b ≡ false) × (is_due (body_after can false asked w (exchanges (e ∷ earlier))) call ≡ true)
+    by_end : (b : Bool) → is_due_in_line (cond b None (body_after can false asked w (exchanges (e ∷ earlier)))) call ≡ true
+        → (b ≡ false) × (is_due_in_line (body_after can false asked w (exchanges (e ∷ earlier))) call ≡ true)
     by_end true k = absurd cc
     by_end false k = (refl, k)
 
-first_due : (can : Caps) (reset : Bool) (asked : Asked) (w : Wish) (call : DriverCall) → is_due (cond reset (Some Reset) (body_after can false asked w [])) call ≡ true → goes Start call ≡ true
+first_due : (can : Caps) (reset : Bool) (asked : Asked) (w : Wish) (call : DriverCall) → is_due_in_line (cond reset (Some Reset) (body_after can false asked w [])) call ≡ true → goes Start call ≡ true
 first_due can true asked w Reset h = refl
 first_due can true asked w _ h = absurd cc
 first_due can false asked w call h = goes_body can asked w Start [] call refl refl h
 
 -- A driver call that is due may be sent.
-pub goes_due : (can : Caps) (reset : Bool) (asked : Asked) (w : Wish) (L : List Entry) (call : DriverCall) → MadeAt can asked (step L) (exchanges L) → is_due (line_after can reset asked w L) call ≡ true
+pub goes_due : (can : Caps) (reset : Bool) (asked : Asked) (w : Wish) (L : List Entry) (call : DriverCall) → MadeAt can asked (step L) (exchanges L) → is_due_in_line (line_after can reset asked w L) call ≡ true
     → goes (step L) call ≡ true
 goes_due can reset asked w [] call made h = first_due can reset asked w call h
 goes_due can reset asked w (e ∷ earlier) call made h =
     let k = body_due can reset asked w e earlier call h in
     goes_body can asked w (step (e ∷ earlier)) (exchanges (e ∷ earlier)) call (ended_by (step earlier) e.call e.answer k.0) made k.1
 
-first_made : (can : Caps) (reset : Bool) (asked : Asked) (w : Wish) (q : DriverCall) (a : DriverAnswer) → is_due (cond reset (Some Reset) (body_after can false asked w [])) q ≡ true
+first_made : (can : Caps) (reset : Bool) (asked : Asked) (w : Wish) (q : DriverCall) (a : DriverAnswer) → is_due_in_line (cond reset (Some Reset) (body_after can false asked w [])) q ≡ true
     → (fits_of q a && not (is_memory a)) ≡ true → MadeAt can asked (step_after Start q a) (with_exchange (step_of q) a [])
 first_made can true asked w Reset a h fit = made_reset can asked a
 first_made can true asked w _ a h fit = absurd cc
@@ -97,7 +97,7 @@ first_made can false asked w q a h fit = made_next can asked w Start q a [] refl
 
 -- The exchanges after the answer to a driver call that was due are those of the next step.
 pub made_on : (can : Caps) (reset : Bool) (asked : Asked) (w : Wish) (L : List Entry) (q : DriverCall) (a : DriverAnswer) → MadeAt can asked (step L) (exchanges L)
-    → is_due (line_after can reset asked w L) q ≡ true → (fits_of q a && not (is_memory a)) ≡ true → MadeAt can asked (step_after (step L) q a) (with_exchange (step_of q) a (exchanges L))
+    → is_due_in_line (line_after can reset asked w L) q ≡ true → (fits_of q a && not (is_memory a)) ≡ true → MadeAt can asked (step_after (step L) q a) (with_exchange (step_of q) a (exchanges L))
 made_on can reset asked w [] q a made h fit = first_made can reset asked w q a h fit
 made_on can reset asked w (e ∷ earlier) q a made h fit =
     let k = body_due can reset asked w e earlier q h in
@@ -151,7 +151,7 @@ pub record Serves (c t n : ℕ) (J : List Entry) : Type 0 where
   pub served : Served c J
   pub rising : last_tenure J ≤ t
   pub tested : ends_invalid J ≡ false → went_invalid J ≡ false
-  pub good : is_over (of_tenure t J) ≡ false → Good J
+  pub good : sends_no_more (of_tenure t J) ≡ false → Good J
   pub own : list_all (λ x. same_owner x.owner (Call n)) (of_tenure t J) ≡ true
   pub so_far : SoFar t n (step (of_tenure t J)) (of_tenure t J)
   pub live : handles J ≡ handles (of_tenure t J)
@@ -184,7 +184,7 @@ all_more a b h k = grind (arith)
 
 -- Of a driver call that is due, all is known that a sent driver call needs.
 sends : (c t n : ℕ) (J : List Entry) (can : Caps) (reset : Bool) (asked : Asked) (w : Wish) (q : DriverCall) → Serves c t n J → MadeAt can asked (step (of_tenure t J)) (exchanges (of_tenure t J))
-    → is_due (line_after can reset asked w (of_tenure t J)) q ≡ true → Sends c t n q J
+    → is_due_in_line (line_after can reset asked w (of_tenure t J)) q ≡ true → Sends c t n q J
 sends c t n J can reset asked w q s made due =
     let going = due_while can reset asked w (of_tenure t J) (some_of (line_after can reset asked w (of_tenure t J)) q due) in
     record {
@@ -201,7 +201,7 @@ sends c t n J can reset asked w q s made due =
 
 -- A driver call that is due may follow, with each answer that fits there.
 pub may_follow-due : (c t n m : ℕ) (J : List Entry) (can : Caps) (reset : Bool) (asked : Asked) (w : Wish) (q : DriverCall) (a : DriverAnswer)
-    → Serves c t n J → MadeAt can asked (step (of_tenure t J)) (exchanges (of_tenure t J)) → is_due (line_after can reset asked w (of_tenure t J)) q ≡ true
+    → Serves c t n J → MadeAt can asked (step (of_tenure t J)) (exchanges (of_tenure t J)) → is_due_in_line (line_after can reset asked w (of_tenure t J)) q ≡ true
     → fits_at_its_place J (sent_entry c t n m q a) ≡ true → may_follow J (sent_entry c t n m q a) ≡ true
 may_follow-due c t n m J can reset asked w q a s made due fits =
     may_follow-sent c t n m q a J (sends c t n J can reset asked w q s made due) (sent_of (line_after can reset asked w (of_tenure t J)) q due) fits
@@ -217,11 +217,11 @@ invalid_only q _ sent fit h = refl
 
 -- A connection that sent what was due serves on.
 pub serves_on : (c t n m : ℕ) (J : List Entry) (can : Caps) (reset : Bool) (asked : Asked) (w : Wish) (q : DriverCall) (a : DriverAnswer)
-    → Serves c t n J → MadeAt can asked (step (of_tenure t J)) (exchanges (of_tenure t J)) → is_due (line_after can reset asked w (of_tenure t J)) q ≡ true → fits_of q a ≡ true
+    → Serves c t n J → MadeAt can asked (step (of_tenure t J)) (exchanges (of_tenure t J)) → is_due_in_line (line_after can reset asked w (of_tenure t J)) q ≡ true → fits_of q a ≡ true
     → Serves c t n (sent_entry c t n m q a ∷ J)
 serves_on c t n m J can reset asked w q a s made due fit =
     let sent : is_sent q ≡ true = sent_of (line_after can reset asked w (of_tenure t J)) q due in
-    let over : is_over (of_tenure t J) ≡ false = due_while can reset asked w (of_tenure t J) (some_of (line_after can reset asked w (of_tenure t J)) q due) in
+    let over : sends_no_more (of_tenure t J) ≡ false = due_while can reset asked w (of_tenure t J) (some_of (line_after can reset asked w (of_tenure t J)) q due) in
     let good : Good J = s.good over in
     let more : of_tenure t (sent_entry c t n m q a ∷ J) ≡ sent_entry c t n m q a ∷ of_tenure t J = of_tenure-with t (sent_entry c t n m q a) J refl in
     record {

@@ -19,13 +19,13 @@ use Rattle.dsql_history_work.specs.course.declared.call.Got.TheVariants as got
 use Rattle.dsql_history_work.specs.course.Steps.{PrepareText, steps, behind}
 use Rattle.dsql_history_work.specs.course.Made.{Exchange, went_bad, own_handle, own_cursor, rows_are_over, has_fast_way}
 use Rattle.dsql_history_work.specs.course.Line.{comes_next, steps_left}
-use Rattle.dsql_history_work.specs.driver.Kinds.{is_bad, is_valid, is_over}
+use Rattle.dsql_history_work.specs.driver.Kinds.{is_bad, is_valid, ends_cursor}
 use Rattle.dsql_history_work.specs.declared.work.Aim.{Aim}
 use Rattle.dsql_history_work.specs.declared.work.Aim.TheVariants as aims
 use Rattle.dsql_history_work.specs.course.declared.course.Wish.{Wish}
 use Rattle.dsql_history_work.specs.course.declared.course.Wish.TheVariants as wishes
 use Rattle.dsql_history_work.specs.course.Rows.{closing_next}
-use Rattle.dsql_history_work.specs.Line.{Asked, course_of, run_for, run_of, found, sent_as, test_of, handed, body_after, is_due}
+use Rattle.dsql_history_work.specs.Line.{Asked, course_of, run_for, run_of, found, sent_as, test_of, handed, body_after, is_due_in_line}
 use Rattle.dsql_laws_work.proofs.KeptRows.{keeps, keeps_rows}
 use Rattle.dsql_laws_work.proofs.CallLines.{Step, Start, WasReset, WasSkipped, WasPrepared, HasRows, HasRead, WasRun, WasDone, WasTested, WasDropped, IsOther, step_after, read_after, freed_after, left_of, goes}
 
@@ -67,14 +67,14 @@ pub record MadeRows (can : Caps) (asked : Asked) (own : Option ℕ) (rows : ℕ)
   pub handle : option_map (λ h. h.0) (own_handle made) ≡ own
   pub cursor : own_cursor made ≡ Some rows
   pub good : went_bad made ≡ false
-  pub is_over : rows_are_over made ≡ over
-  pub closing : closing_next can (length asked.params) made ≡ due.CloseRows rows
+  pub are_over : rows_are_over made ≡ over
+  pub next_close : closing_next can (length asked.params) made ≡ due.CloseRows rows
   pub sends : SendsRow asked.aim can (length asked.params) made next
 
 -- Holds if only its handle is left. Rows that it handed out are over, whatever is wanted of them.
 pub record MadeRun (can : Caps) (asked : Asked) (handle : ℕ) (made : List Exchange) : Type 0 where
   pub sends : (w : Wish) → body_after can false asked w made ≡ Some (CloseStmt handle)
-  pub is_over : (rows : ℕ) → handed asked.aim made ≡ Some rows → rows_are_over made ≡ true
+  pub are_over : (rows : ℕ) → handed asked.aim made ≡ Some rows → rows_are_over made ≡ true
 
 -- Holds if these are the exchanges of a tenure at this step.
 abbrev pub MadeAt : Caps → Asked → Step → List Exchange → Type 0
@@ -123,7 +123,7 @@ ended_by s (Prepare text) a h = refl
 ended_by s (Exec (Handle handle) params) a h = refl
 ended_by s (Query (Handle handle) params) (Cursor rows columns) h = refl
 ended_by s (Query (Handle handle) params) a h = refl
-ended_by s (Next rows) a h = read_goes_on s (is_over a)
+ended_by s (Next rows) a h = read_goes_on s (ends_cursor a)
 ended_by s (CloseRows rows) a h = freed_goes_on s
 ended_by s (CloseStmt handle) a h = refl
 ended_by s Valid a h = absurd cc
@@ -145,14 +145,14 @@ pub body_before : (can : Caps) (asked : Asked) (w : Wish) (made : List Exchange)
 body_before can asked w made none = rw (no_rows asked.aim made none) refl
 
 -- Only a call that executes its text sends an Exec, and it sends no Query.
-pub executes : (can : Caps) (asked : Asked) (d : Due) (input : Input) (params : List Param) → is_due (sent_as can asked d) (Exec input params) ≡ true → asked.aim ≡ aims.Execute
+pub executes : (can : Caps) (asked : Asked) (d : Due) (input : Input) (params : List Param) → is_due_in_line (sent_as can asked d) (Exec input params) ≡ true → asked.aim ≡ aims.Execute
 executes can asked d input params h = by_aim asked.aim d h
   where
-    not_test : (b : Bool) → is_due (cond b (Some Valid) None) (Exec input params) ≡ true → ⊥
+    not_test : (b : Bool) → is_due_in_line (cond b (Some Valid) None) (Exec input params) ≡ true → ⊥
     not_test true k = cc
     not_test false k = cc
 
-    by_aim : (x : Aim) (e : Due) → is_due (sent_as can (asking asked.text asked.params x) e) (Exec input params) ≡ true → x ≡ aims.Execute
+    by_aim : (x : Aim) (e : Due) → is_due_in_line (sent_as can (asking asked.text asked.params x) e) (Exec input params) ≡ true → x ≡ aims.Execute
     by_aim aims.Execute e k = refl
     by_aim _ due.Text k = absurd cc
     by_aim _ due.Prepare k = absurd cc
@@ -164,14 +164,14 @@ executes can asked d input params h = by_aim asked.aim d h
     by_aim _ _ k = absurd (not_test can.validator k)
 
 pub not_queried : (can : Caps) (text : List ℕ) (own : List Param) (d : Due) (input : Input) (params : List Param)
-    → is_due (sent_as can (asking text own aims.Execute) d) (Query input params) ≡ true → ⊥
+    → is_due_in_line (sent_as can (asking text own aims.Execute) d) (Query input params) ≡ true → ⊥
 not_queried can text own d input params h = by_call d h
   where
-    not_test : (b : Bool) → is_due (cond b (Some Valid) None) (Query input params) ≡ true → ⊥
+    not_test : (b : Bool) → is_due_in_line (cond b (Some Valid) None) (Query input params) ≡ true → ⊥
     not_test true k = cc
     not_test false k = cc
 
-    by_call : (e : Due) → is_due (sent_as can (asking text own aims.Execute) e) (Query input params) ≡ true → ⊥
+    by_call : (e : Due) → is_due_in_line (sent_as can (asking text own aims.Execute) e) (Query input params) ≡ true → ⊥
     by_call due.Text k = cc
     by_call due.Prepare k = cc
     by_call (due.Handle handle) k = cc
@@ -249,49 +249,49 @@ then_handle can text params x handle made m = by_count (is_none (count_fault m.i
     by_count true is = rw (m.good, m.left, m.own, m.none, is) refl
     by_count false is = rw (m.good, m.left, m.own, m.none, is) refl
 
-goes_test : (can : Caps) (call : DriverCall) → is_due (test_of can) call ≡ true → (goes Start call ≡ true) × (goes WasReset call ≡ true) × (goes WasDone call ≡ true)
+goes_test : (can : Caps) (call : DriverCall) → is_due_in_line (test_of can) call ≡ true → (goes Start call ≡ true) × (goes WasReset call ≡ true) × (goes WasDone call ≡ true)
 goes_test can call h = by_can can.validator call h
   where
-    by_can : (b : Bool) (q : DriverCall) → is_due (cond b (Some Valid) None) q ≡ true → (goes Start q ≡ true) × (goes WasReset q ≡ true) × (goes WasDone q ≡ true)
+    by_can : (b : Bool) (q : DriverCall) → is_due_in_line (cond b (Some Valid) None) q ≡ true → (goes Start q ≡ true) × (goes WasReset q ≡ true) × (goes WasDone q ≡ true)
     by_can true Valid k = (refl, refl, refl)
     by_can true _ k = absurd cc
     by_can false q k = absurd cc
 
-goes_run : (asked : Asked) (text : List ℕ) (call : DriverCall) → is_due (Some (run_of asked (Text text))) call ≡ true → (goes Start call ≡ true) × (goes WasReset call ≡ true)
+goes_run : (asked : Asked) (text : List ℕ) (call : DriverCall) → is_due_in_line (Some (run_of asked (Text text))) call ≡ true → (goes Start call ≡ true) × (goes WasReset call ≡ true)
 goes_run asked text call h = by_aim asked.aim call h
   where
-    by_aim : (x : Aim) (q : DriverCall) → is_due (Some (run_for x (Text text) asked.params)) q ≡ true → (goes Start q ≡ true) × (goes WasReset q ≡ true)
+    by_aim : (x : Aim) (q : DriverCall) → is_due_in_line (Some (run_for x (Text text) asked.params)) q ≡ true → (goes Start q ≡ true) × (goes WasReset q ≡ true)
     by_aim aims.Execute (Exec (Text other) params) k = (refl, refl)
     by_aim aims.Execute _ k = absurd cc
     by_aim _ (Query (Text other) params) k = (refl, refl)
     by_aim _ _ k = absurd cc
 
-goes_prepare : (text : List ℕ) (call : DriverCall) → is_due (Some (Prepare text)) call ≡ true → (goes Start call ≡ true) × (goes WasReset call ≡ true) × (goes WasSkipped call ≡ true)
+goes_prepare : (text : List ℕ) (call : DriverCall) → is_due_in_line (Some (Prepare text)) call ≡ true → (goes Start call ≡ true) × (goes WasReset call ≡ true) × (goes WasSkipped call ≡ true)
 goes_prepare text (Prepare other) h = (refl, refl, refl)
 goes_prepare text _ h = absurd cc
 
-goes_ping : (call : DriverCall) → is_due (Some Ping) call ≡ true → (goes Start call ≡ true) × (goes WasReset call ≡ true)
+goes_ping : (call : DriverCall) → is_due_in_line (Some Ping) call ≡ true → (goes Start call ≡ true) × (goes WasReset call ≡ true)
 goes_ping Ping h = (refl, refl)
 goes_ping _ h = absurd cc
 
-goes_handle : (asked : Asked) (handle : ℕ) (call : DriverCall) → is_due (Some (run_of asked (Handle handle))) call ≡ true → goes (WasPrepared handle) call ≡ true
+goes_handle : (asked : Asked) (handle : ℕ) (call : DriverCall) → is_due_in_line (Some (run_of asked (Handle handle))) call ≡ true → goes (WasPrepared handle) call ≡ true
 goes_handle asked handle call h = by_aim asked.aim call h
   where
-    by_aim : (x : Aim) (q : DriverCall) → is_due (Some (run_for x (Handle handle) asked.params)) q ≡ true → goes (WasPrepared handle) q ≡ true
+    by_aim : (x : Aim) (q : DriverCall) → is_due_in_line (Some (run_for x (Handle handle) asked.params)) q ≡ true → goes (WasPrepared handle) q ≡ true
     by_aim aims.Execute (Exec (Handle other) params) k = grind (arith, k)
     by_aim aims.Execute _ k = absurd cc
     by_aim _ (Query (Handle other) params) k = grind (arith, k)
     by_aim _ _ k = absurd cc
 
-goes_close : (handle : ℕ) (call : DriverCall) → is_due (Some (CloseStmt handle)) call ≡ true → (goes (WasPrepared handle) call ≡ true) × (goes (WasRun handle) call ≡ true)
+goes_close : (handle : ℕ) (call : DriverCall) → is_due_in_line (Some (CloseStmt handle)) call ≡ true → (goes (WasPrepared handle) call ≡ true) × (goes (WasRun handle) call ≡ true)
 goes_close handle (CloseStmt other) h = (h, h)
 goes_close handle _ h = absurd cc
 
-goes_next : (own : Option ℕ) (rows : ℕ) (call : DriverCall) → is_due (Some (Next rows)) call ≡ true → (goes (HasRows own rows) call ≡ true) × (goes (HasRead own rows false) call ≡ true)
+goes_next : (own : Option ℕ) (rows : ℕ) (call : DriverCall) → is_due_in_line (Some (Next rows)) call ≡ true → (goes (HasRows own rows) call ≡ true) × (goes (HasRead own rows false) call ≡ true)
 goes_next own rows (Next other) h = (h, h)
 goes_next own rows _ h = absurd cc
 
-goes_free : (own : Option ℕ) (rows : ℕ) (call : DriverCall) → is_due (Some (CloseRows rows)) call ≡ true
+goes_free : (own : Option ℕ) (rows : ℕ) (call : DriverCall) → is_due_in_line (Some (CloseRows rows)) call ≡ true
     → (goes (HasRows own rows) call ≡ true) × ((over : Bool) → goes (HasRead own rows over) call ≡ true)
 goes_free own rows (CloseRows other) h = (h, λ over. by_over over)
   where
@@ -300,36 +300,36 @@ goes_free own rows (CloseRows other) h = (h, λ over. by_over over)
     by_over false = h
 goes_free own rows _ h = absurd cc
 
-first_goes : (can : Caps) (asked : Asked) (w : Wish) (call : DriverCall) → is_due (body_after can false asked w []) call ≡ true → (goes Start call ≡ true) × (goes WasReset call ≡ true)
+first_goes : (can : Caps) (asked : Asked) (w : Wish) (call : DriverCall) → is_due_in_line (body_after can false asked w []) call ≡ true → (goes Start call ≡ true) × (goes WasReset call ≡ true)
 first_goes can asked w call h = by_aim asked.aim (rw (body_before can asked w [] refl, first_of can asked.text asked.params asked.aim) at h)
   where
-    by_fast : (b : Bool) → is_due (sent_as can asked (cond b due.Text due.Prepare)) call ≡ true → (goes Start call ≡ true) × (goes WasReset call ≡ true)
+    by_fast : (b : Bool) → is_due_in_line (sent_as can asked (cond b due.Text due.Prepare)) call ≡ true → (goes Start call ≡ true) × (goes WasReset call ≡ true)
     by_fast true k = goes_run asked asked.text call k
     by_fast false k = let g = goes_prepare asked.text call k in (g.0, g.1)
 
-    by_ping : (b : Bool) → is_due (sent_as can asked (cond b due.Ping due.Over)) call ≡ true → (goes Start call ≡ true) × (goes WasReset call ≡ true)
+    by_ping : (b : Bool) → is_due_in_line (sent_as can asked (cond b due.Ping due.Over)) call ≡ true → (goes Start call ≡ true) × (goes WasReset call ≡ true)
     by_ping true k = goes_ping call k
     by_ping false k = let g = goes_test can call k in (g.0, g.1)
 
-    by_aim : (x : Aim) → is_due (sent_as can asked (first_call x can)) call ≡ true → (goes Start call ≡ true) × (goes WasReset call ≡ true)
+    by_aim : (x : Aim) → is_due_in_line (sent_as can asked (first_call x can)) call ≡ true → (goes Start call ≡ true) × (goes WasReset call ≡ true)
     by_aim aims.Ping k = by_ping can.pinger k
     by_aim aims.Execute k = by_fast (has_fast_way courses.Exec can) k
     by_aim aims.ReadOne k = by_fast (has_fast_way courses.One can) k
     by_aim aims.HandOut k = by_fast (has_fast_way courses.Query can) k
 
-second_goes : (can : Caps) (asked : Asked) (w : Wish) (call : DriverCall) → has_text asked.aim ≡ true → is_due (body_after can false asked w ((due.Text, got.Skip) ∷ [])) call ≡ true → goes WasSkipped call ≡ true
+second_goes : (can : Caps) (asked : Asked) (w : Wish) (call : DriverCall) → has_text asked.aim ≡ true → is_due_in_line (body_after can false asked w ((due.Text, got.Skip) ∷ [])) call ≡ true → goes WasSkipped call ≡ true
 second_goes can asked w call texts h =
-    let k : is_due (sent_as can asked due.Prepare) call ≡ true =
+    let k : is_due_in_line (sent_as can asked due.Prepare) call ≡ true =
     rw (body_before can asked w ((due.Text, got.Skip) ∷ []) refl, second_of can asked.text asked.params asked.aim texts) at h in
     let g = goes_prepare asked.text call k in g.2
 
-handle_goes : (can : Caps) (asked : Asked) (w : Wish) (handle : ℕ) (made : List Exchange) (call : DriverCall) → MadeHandle asked handle made → is_due (body_after can false asked w made) call ≡ true
+handle_goes : (can : Caps) (asked : Asked) (w : Wish) (handle : ℕ) (made : List Exchange) (call : DriverCall) → MadeHandle asked handle made → is_due_in_line (body_after can false asked w made) call ≡ true
     → goes (WasPrepared handle) call ≡ true
 handle_goes can asked w handle made call m h =
     by_count (is_none (count_fault m.inputs (length asked.params)))
     (rw (body_before can asked w made m.none, then_handle can asked.text asked.params asked.aim handle made m) at h)
   where
-    by_count : (b : Bool) → is_due (sent_as can asked (cond b (due.Handle handle) (due.CloseStmt handle))) call ≡ true → goes (WasPrepared handle) call ≡ true
+    by_count : (b : Bool) → is_due_in_line (sent_as can asked (cond b (due.Handle handle) (due.CloseStmt handle))) call ≡ true → goes (WasPrepared handle) call ≡ true
     by_count true k = goes_handle asked handle call k
     by_count false k = let g = goes_close handle call k in g.0
 
@@ -341,27 +341,27 @@ open_sends wishes.Close rows = Some (CloseRows rows)
 
 pub sends_open : (can : Caps) (text : List ℕ) (params : List Param) (w : Wish) (own : Option ℕ) (rows : ℕ) (it : Due) (made : List Exchange)
     → MadeRows can (asking text params aims.HandOut) own rows false it made → body_after can false (asking text params aims.HandOut) w made ≡ open_sends w rows
-sends_open can text params wishes.Close own rows it made m = rw (m.cursor, m.is_over, m.closing) refl
-sends_open can text params _ own rows it made m = rw (m.cursor, m.is_over) refl
+sends_open can text params wishes.Close own rows it made m = rw (m.cursor, m.are_over, m.next_close) refl
+sends_open can text params _ own rows it made m = rw (m.cursor, m.are_over) refl
 
 pub sends_over : (can : Caps) (text : List ℕ) (params : List Param) (w : Wish) (own : Option ℕ) (rows : ℕ) (it : Due) (made : List Exchange)
     → MadeRows can (asking text params aims.HandOut) own rows true it made → body_after can false (asking text params aims.HandOut) w made ≡ Some (CloseRows rows)
-sends_over can text params w own rows it made m = rw (m.cursor, m.is_over, m.closing) refl
+sends_over can text params w own rows it made m = rw (m.cursor, m.are_over, m.next_close) refl
 
 -- What is wanted of open rows may be sent at their step.
-open_goes : (w : Wish) (own : Option ℕ) (rows : ℕ) (call : DriverCall) → is_due (open_sends w rows) call ≡ true → (goes (HasRows own rows) call ≡ true) × (goes (HasRead own rows false) call ≡ true)
+open_goes : (w : Wish) (own : Option ℕ) (rows : ℕ) (call : DriverCall) → is_due_in_line (open_sends w rows) call ≡ true → (goes (HasRows own rows) call ≡ true) × (goes (HasRead own rows false) call ≡ true)
 open_goes wishes.Nothing own rows call h = absurd cc
 open_goes wishes.Fetch own rows call h = goes_next own rows call h
 open_goes wishes.Close own rows call h = let g = goes_free own rows call h in (g.0, g.1 false)
 
 rows_go : (can : Caps) (text : List ℕ) (params : List Param) (aim : Aim) (w : Wish) (own : Option ℕ) (rows : ℕ) (made : List Exchange) (call : DriverCall)
-    → MadeRows can (asking text params aim) own rows false (due.Next rows) made → is_due (body_after can false (asking text params aim) w made) call ≡ true → goes (HasRows own rows) call ≡ true
+    → MadeRows can (asking text params aim) own rows false (due.Next rows) made → is_due_in_line (body_after can false (asking text params aim) w made) call ≡ true → goes (HasRows own rows) call ≡ true
 rows_go can text params aims.ReadOne w own rows made call m h = let g = goes_next own rows call (rw m.sends at h) in g.0
 rows_go can text params aims.HandOut w own rows made call m h = let g = open_goes w own rows call (rw (sends_open can text params w own rows (due.Next rows) made m) at h) in g.0
 rows_go can text params _ w own rows made call m h = absurd (impossible m.reads)
 
 read_go : (can : Caps) (text : List ℕ) (params : List Param) (aim : Aim) (w : Wish) (own : Option ℕ) (rows : ℕ) (over : Bool) (made : List Exchange) (call : DriverCall)
-    → MadeRows can (asking text params aim) own rows over (due.CloseRows rows) made → is_due (body_after can false (asking text params aim) w made) call ≡ true → goes (HasRead own rows over) call ≡ true
+    → MadeRows can (asking text params aim) own rows over (due.CloseRows rows) made → is_due_in_line (body_after can false (asking text params aim) w made) call ≡ true → goes (HasRead own rows over) call ≡ true
 read_go can text params aims.Execute w own rows over made call m h = absurd (impossible m.reads)
 read_go can text params aims.Ping w own rows over made call m h = absurd (impossible m.reads)
 read_go can text params aims.ReadOne w own rows over made call m h = let g = goes_free own rows call (rw m.sends at h) in g.1 over
@@ -370,7 +370,7 @@ read_go can text params aims.HandOut w own rows false made call m h =
     let g = open_goes w own rows call (rw (sends_open can text params w own rows (due.CloseRows rows) made m) at h) in g.1
 
 pub goes_body : (can : Caps) (asked : Asked) (w : Wish) (s : Step) (made : List Exchange) (call : DriverCall) → is_ended s ≡ false → MadeAt can asked s made
-    → is_due (body_after can false asked w made) call ≡ true → goes s call ≡ true
+    → is_due_in_line (body_after can false asked w made) call ≡ true → goes s call ≡ true
 goes_body can asked w Start made call e m h = let g = first_goes can asked w call (rw m at h) in g.0
 goes_body can asked w WasReset made call e m h = let g = first_goes can asked w call (rw m at h) in g.1
 goes_body can asked w WasSkipped made call e m h = second_goes can asked w call m.1 (rw m.0 at h)
@@ -403,7 +403,7 @@ sent_or_kept wishes.Close rows h k = cc
 open_left : (can : Caps) (text : List ℕ) (params : List Param) (w : Wish) (own : Option ℕ) (rows : ℕ) (it : Due) (made : List Exchange)
     → MadeRows can (asking text params aims.HandOut) own rows false it made → is_none (body_after can false (asking text params aims.HandOut) w made) ≡ true
     → keeps_rows aims.HandOut w made ≡ false → ⊥
-open_left can text params w own rows it made m h k = sent_or_kept w rows (rw (sends_open can text params w own rows it made m) at h) (rw (m.cursor, m.is_over) at k)
+open_left can text params w own rows it made m h k = sent_or_kept w rows (rw (sends_open can text params w own rows it made m) at h) (rw (m.cursor, m.are_over) at k)
 
 rows_left : (can : Caps) (text : List ℕ) (params : List Param) (aim : Aim) (w : Wish) (own : Option ℕ) (rows : ℕ) (made : List Exchange)
     → MadeRows can (asking text params aim) own rows false (due.Next rows) made → is_none (body_after can false (asking text params aim) w made) ≡ true → keeps_rows aim w made ≡ false → ⊥

@@ -18,11 +18,11 @@ use Rattle.dsql_history_work.specs.course.declared.call.Got.TheVariants as got
 use Rattle.dsql_history_work.specs.course.Made.{Exchange, is_bad as is_bad_got, given_handle, given_cursor, went_bad, own_handle, own_cursor, rows_are_over, has_fast_way}
 use Rattle.dsql_history_work.specs.course.Rows.{closing_next}
 use Rattle.dsql_history_work.proofs.course.Handed.{rows_are_closed}
-use Rattle.dsql_history_work.specs.driver.Kinds.{is_bad, is_valid, is_ping, is_over}
+use Rattle.dsql_history_work.specs.driver.Kinds.{is_bad, is_valid, is_ping, ends_cursor}
 use Rattle.dsql_history_work.specs.Exchanges.{step_of, got_of, with_exchange}
 use Rattle.dsql_history_work.specs.declared.work.Aim.{Aim}
 use Rattle.dsql_history_work.specs.declared.work.Aim.TheVariants as aims
-use Rattle.dsql_history_work.specs.Line.{Asked, course_of, sent_as, test_of, handed, body_after, is_due}
+use Rattle.dsql_history_work.specs.Line.{Asked, course_of, sent_as, test_of, handed, body_after, is_due_in_line}
 use Rattle.dsql_laws_work.proofs.CallLines.{Step, Start, WasReset, WasSkipped, WasPrepared, HasRows, HasRead, WasRun, WasDone, step_after, freed_after, left_of, goes}
 use Rattle.dsql_laws_work.proofs.MadeLines.{next_of, asking, has_text, MadeHandle, MadeRows, MadeRun, MadeAt, SendsRow, is_ended, body_before, executes, not_queried, first_call, first_of, goes_body}
 use Rattle.dsql_laws_work.proofs.Rows.{same_number}
@@ -45,16 +45,16 @@ not_pinged h = cc
 
 -- A call whose first driver call is neither a Ping nor a test has a text.
 first_has_text : (can : Caps) (text : List ℕ) (params : List Param) (aim : Aim) (w : Wish) (q : DriverCall) → is_ping q || is_valid q ≡ false
-    → is_due (body_after can false (asking text params aim) w []) q ≡ true → has_text aim ≡ true
+    → is_due_in_line (body_after can false (asking text params aim) w []) q ≡ true → has_text aim ≡ true
 first_has_text can text params aims.Ping w q other h =
     by_can can.pinger q other (rw (body_before can (asking text params aims.Ping) w [] refl, first_of can text params aims.Ping) at h)
   where
-    not_test : (b : Bool) (r : DriverCall) → is_ping r || is_valid r ≡ false → is_due (cond b (Some Valid) None) r ≡ true → ⊥
+    not_test : (b : Bool) (r : DriverCall) → is_ping r || is_valid r ≡ false → is_due_in_line (cond b (Some Valid) None) r ≡ true → ⊥
     not_test true Valid o k = cc
     not_test true _ o k = cc
     not_test false r o k = cc
 
-    by_can : (b : Bool) (r : DriverCall) → is_ping r || is_valid r ≡ false → is_due (sent_as can (asking text params aims.Ping) (cond b due.Ping due.Over)) r ≡ true → false ≡ true
+    by_can : (b : Bool) (r : DriverCall) → is_ping r || is_valid r ≡ false → is_due_in_line (sent_as can (asking text params aims.Ping) (cond b due.Ping due.Over)) r ≡ true → false ≡ true
     by_can true Ping o k = absurd cc
     by_can true _ o k = absurd cc
     by_can false r o k = absurd (not_test can.validator r o k)
@@ -65,17 +65,17 @@ text_first : (can : Caps) (aim : Aim) → has_text aim ≡ true → first_call a
 text_first can aims.Ping h = absurd cc
 text_first can _ h = refl
 
-has_fast : (can : Caps) (text : List ℕ) (params : List Param) (aim : Aim) (w : Wish) (q : DriverCall) → has_text aim ≡ true → ((t : List ℕ) → is_due (Some (Prepare t)) q ≡ false)
-    → is_due (body_after can false (asking text params aim) w []) q ≡ true → has_fast_way (course_of aim) can ≡ true
+has_fast : (can : Caps) (text : List ℕ) (params : List Param) (aim : Aim) (w : Wish) (q : DriverCall) → has_text aim ≡ true → ((t : List ℕ) → is_due_in_line (Some (Prepare t)) q ≡ false)
+    → is_due_in_line (body_after can false (asking text params aim) w []) q ≡ true → has_fast_way (course_of aim) can ≡ true
 has_fast can text params aim w q texts not_prepare h =
     by_fast (has_fast_way (course_of aim) can) (rw (body_before can (asking text params aim) w [] refl, first_of can text params aim, text_first can aim texts) at h)
   where
-    by_fast : (b : Bool) → is_due (sent_as can (asking text params aim) (cond b due.Text due.Prepare)) q ≡ true → b ≡ true
+    by_fast : (b : Bool) → is_due_in_line (sent_as can (asking text params aim) (cond b due.Text due.Prepare)) q ≡ true → b ≡ true
     by_fast true k = refl
     by_fast false k = let n = not_prepare text in absurd cc
 
 text_executed : (can : Caps) (text : List ℕ) (params : List Param) (aim : Aim) (w : Wish) (s : Step) (t : List ℕ) (ps : List Param) (a : DriverAnswer)
-    → is_due (body_after can false (asking text params aim) w []) (Exec (Text t) ps) ≡ true → (fits_of (Exec (Text t) ps) a && not (is_memory a)) ≡ true
+    → is_due_in_line (body_after can false (asking text params aim) w []) (Exec (Text t) ps) ≡ true → (fits_of (Exec (Text t) ps) a && not (is_memory a)) ≡ true
     → MadeAt can (asking text params aim) (step_after s (Exec (Text t) ps) a) ((due.Text, got_of a) ∷ [])
 text_executed can text params aims.ReadOne w s t ps a h fit =
     let k = executes can (asking text params aims.ReadOne) (next_of can (asking text params aims.ReadOne) []) (Text t) ps h in absurd (not_executed k)
@@ -94,7 +94,7 @@ text_gave_rows : (can : Caps) (args rows : ℕ) → closing_next can args ((due.
 text_gave_rows can args rows = let laws = rows_are_closed in laws.cursor can args rows (due.Text, got.Cursor rows) [] refl refl refl
 
 text_queried : (can : Caps) (text : List ℕ) (params : List Param) (aim : Aim) (w : Wish) (s : Step) (t : List ℕ) (ps : List Param) (a : DriverAnswer)
-    → is_due (body_after can false (asking text params aim) w []) (Query (Text t) ps) ≡ true → (fits_of (Query (Text t) ps) a && not (is_memory a)) ≡ true
+    → is_due_in_line (body_after can false (asking text params aim) w []) (Query (Text t) ps) ≡ true → (fits_of (Query (Text t) ps) a && not (is_memory a)) ≡ true
     → MadeAt can (asking text params aim) (step_after s (Query (Text t) ps) a) ((due.Text, got_of a) ∷ [])
 text_queried can text params aims.Execute w s t ps a h fit = absurd (not_queried can text params (next_of can (asking text params aims.Execute) []) (Text t) ps h)
 text_queried can text params aims.Ping w s t ps a h fit = absurd (impossible (first_has_text can text params aims.Ping w (Query (Text t) ps) refl h))
@@ -103,12 +103,12 @@ text_queried can text params aims.ReadOne w s t ps (Cursor rows columns) h fit =
   handle = refl;
   cursor = refl;
   good = refl;
-  is_over = refl;
-  closing = text_gave_rows can (length params) rows;
+  are_over = refl;
+  next_close = text_gave_rows can (length params) rows;
   sends = rw (has_fast can text params aims.ReadOne w (Query (Text t) ps) refl (λ x. refl) h) refl;
 }
 text_queried can text params aims.HandOut w s t ps (Cursor rows columns) h fit =
-    record { reads = refl; handle = refl; cursor = refl; good = refl; is_over = refl; closing = text_gave_rows can (length params) rows; sends = tt }
+    record { reads = refl; handle = refl; cursor = refl; good = refl; are_over = refl; next_close = text_gave_rows can (length params) rows; sends = tt }
 text_queried can text params aims.ReadOne w s t ps (Fail why) h fit = λ it. rw (has_fast can text params aims.ReadOne w (Query (Text t) ps) refl (λ x. refl) h) refl
 text_queried can text params aims.HandOut w s t ps (Fail why) h fit = λ it. rw (has_fast can text params aims.HandOut w (Query (Text t) ps) refl (λ x. refl) h) refl
 text_queried can text params aims.ReadOne w s t ps Skip h fit = (refl, refl)
@@ -131,15 +131,15 @@ prepared_next can text params aim s t Bad made texts own none good unread fit = 
 prepared_next can text params aim s t _ made texts own none good unread fit = absurd (impossible fit)
 
 -- What is due after the handle was prepared is what the course sends.
-handle_due : (can : Caps) (asked : Asked) (w : Wish) (handle : ℕ) (q : DriverCall) (made : List Exchange) → MadeHandle asked handle made → is_due (body_after can false asked w made) q ≡ true
-    → is_due (sent_as can asked (next_of can asked made)) q ≡ true
+handle_due : (can : Caps) (asked : Asked) (w : Wish) (handle : ℕ) (q : DriverCall) (made : List Exchange) → MadeHandle asked handle made → is_due_in_line (body_after can false asked w made) q ≡ true
+    → is_due_in_line (sent_as can asked (next_of can asked made)) q ≡ true
 handle_due can asked w handle q made m h = rw (body_before can asked w made m.none) at h
 
 no_cursor : (made : List Exchange) (rows : ℕ) → own_cursor made ≡ None → own_cursor made ≡ Some rows → ⊥
 no_cursor made rows none is = cc
 
 handle_executed : (can : Caps) (text : List ℕ) (params : List Param) (aim : Aim) (w : Wish) (s : Step) (handle : ℕ) (ps : List Param) (a : DriverAnswer) (made : List Exchange)
-    → MadeHandle (asking text params aim) handle made → is_due (body_after can false (asking text params aim) w made) (Exec (Handle handle) ps) ≡ true
+    → MadeHandle (asking text params aim) handle made → is_due_in_line (body_after can false (asking text params aim) w made) (Exec (Handle handle) ps) ≡ true
     → (fits_of (Exec (Handle handle) ps) a && not (is_memory a)) ≡ true → MadeAt can (asking text params aim) (step_after s (Exec (Handle handle) ps) a) ((due.Handle handle, got_of a) ∷ made)
 handle_executed can text params aims.ReadOne w s handle ps a made m h fit =
     let k = executes can (asking text params aims.ReadOne) (next_of can (asking text params aims.ReadOne) made) (Handle handle) ps h in absurd (not_executed k)
@@ -147,8 +147,8 @@ handle_executed can text params aims.Ping w s handle ps a made m h fit = absurd 
 handle_executed can text params aims.HandOut w s handle ps a made m h fit =
     let k = executes can (asking text params aims.HandOut) (next_of can (asking text params aims.HandOut) made) (Handle handle) ps
     (handle_due can (asking text params aims.HandOut) w handle (Exec (Handle handle) ps) made m h) in absurd (not_handed k)
-handle_executed can text params aims.Execute w s handle ps (Result last affected) made m h fit = record { sends = λ it. rw (m.good, m.own) refl; is_over = λ rows is. absurd cc }
-handle_executed can text params aims.Execute w s handle ps (Fail why) made m h fit = record { sends = λ it. rw (m.good, m.own) refl; is_over = λ rows is. absurd cc }
+handle_executed can text params aims.Execute w s handle ps (Result last affected) made m h fit = record { sends = λ it. rw (m.good, m.own) refl; are_over = λ rows is. absurd cc }
+handle_executed can text params aims.Execute w s handle ps (Fail why) made m h fit = record { sends = λ it. rw (m.good, m.own) refl; are_over = λ rows is. absurd cc }
 handle_executed can text params aims.Execute w s handle ps Bad made m h fit = tt
 handle_executed can text params aims.Execute w s handle ps _ made m h fit = absurd (impossible fit)
 
@@ -157,7 +157,7 @@ handle_gave_rows : (can : Caps) (args handle rows : ℕ) (made : List Exchange) 
 handle_gave_rows can args handle rows made good = let laws = rows_are_closed in laws.cursor can args rows (due.Handle handle, got.Cursor rows) made refl good refl
 
 handle_queried : (can : Caps) (text : List ℕ) (params : List Param) (aim : Aim) (w : Wish) (s : Step) (handle : ℕ) (ps : List Param) (a : DriverAnswer) (made : List Exchange)
-    → MadeHandle (asking text params aim) handle made → is_due (body_after can false (asking text params aim) w made) (Query (Handle handle) ps) ≡ true
+    → MadeHandle (asking text params aim) handle made → is_due_in_line (body_after can false (asking text params aim) w made) (Query (Handle handle) ps) ≡ true
     → (fits_of (Query (Handle handle) ps) a && not (is_memory a)) ≡ true → MadeAt can (asking text params aim) (step_after s (Query (Handle handle) ps) a) ((due.Handle handle, got_of a) ∷ made)
 handle_queried can text params aims.Execute w s handle ps a made m h fit = absurd (not_queried can text params (next_of can (asking text params aims.Execute) made) (Handle handle) ps h)
 handle_queried can text params aims.Ping w s handle ps a made m h fit = absurd (impossible m.texts)
@@ -166,8 +166,8 @@ handle_queried can text params aims.ReadOne w s handle ps (Cursor rows columns) 
   handle = rw m.own refl;
   cursor = refl;
   good = m.good;
-  is_over = m.unread;
-  closing = handle_gave_rows can (length params) handle rows made m.good;
+  are_over = m.unread;
+  next_close = handle_gave_rows can (length params) handle rows made m.good;
   sends = rw m.good refl;
 }
 handle_queried can text params aims.HandOut w s handle ps (Cursor rows columns) made m h fit = record {
@@ -175,13 +175,13 @@ handle_queried can text params aims.HandOut w s handle ps (Cursor rows columns) 
   handle = rw m.own refl;
   cursor = refl;
   good = m.good;
-  is_over = m.unread;
-  closing = handle_gave_rows can (length params) handle rows made m.good;
+  are_over = m.unread;
+  next_close = handle_gave_rows can (length params) handle rows made m.good;
   sends = tt;
 }
-handle_queried can text params aims.ReadOne w s handle ps (Fail why) made m h fit = record { sends = λ it. rw (m.good, m.own, m.none) refl; is_over = λ rows is. absurd cc }
+handle_queried can text params aims.ReadOne w s handle ps (Fail why) made m h fit = record { sends = λ it. rw (m.good, m.own, m.none) refl; are_over = λ rows is. absurd cc }
 handle_queried can text params aims.HandOut w s handle ps (Fail why) made m h fit =
-    record { sends = λ it. rw (m.none, m.good, m.own, m.none) refl; is_over = λ rows is. absurd (no_cursor made rows m.none is) }
+    record { sends = λ it. rw (m.none, m.good, m.own, m.none) refl; are_over = λ rows is. absurd (no_cursor made rows m.none is) }
 handle_queried can text params aims.ReadOne w s handle ps Bad made m h fit = tt
 handle_queried can text params aims.HandOut w s handle ps Bad made m h fit = tt
 handle_queried can text params aims.ReadOne w s handle ps _ made m h fit = absurd (impossible fit)
@@ -210,14 +210,14 @@ then_close can params _ rows answer made n good cursor = tt
 -- A fetch leaves its cursor, which is over if there was no row.
 fetch_keeps : (can : Caps) (text : List ℕ) (params : List Param) (aim : Aim) (own : Option ℕ) (rows : ℕ) (it : Due) (a : DriverAnswer) (made : List Exchange)
     → MadeRows can (asking text params aim) own rows false it made → (fits_of (Next rows) a && not (is_memory a)) ≡ true → is_bad a ≡ false
-    → MadeRows can (asking text params aim) own rows (is_over a) (due.CloseRows rows) ((due.Next rows, got_of a) ∷ made)
+    → MadeRows can (asking text params aim) own rows (ends_cursor a) (due.CloseRows rows) ((due.Next rows, got_of a) ∷ made)
 fetch_keeps can text params aim own rows it (Row values) made m fit not_bad = record {
   reads = m.reads;
   handle = m.handle;
   cursor = m.cursor;
   good = m.good;
-  is_over = m.is_over;
-  closing = let laws = rows_are_closed in laws.cursor can (length params) rows (due.Next rows, got.Row) made refl m.good m.cursor;
+  are_over = m.are_over;
+  next_close = let laws = rows_are_closed in laws.cursor can (length params) rows (due.Next rows, got.Row) made refl m.good m.cursor;
   sends = then_close can params aim rows got.Row made gave_nothing.1 m.good m.cursor;
 }
 fetch_keeps can text params aim own rows it End made m fit not_bad = record {
@@ -225,8 +225,8 @@ fetch_keeps can text params aim own rows it End made m fit not_bad = record {
   handle = m.handle;
   cursor = m.cursor;
   good = m.good;
-  is_over = refl;
-  closing = let laws = rows_are_closed in laws.cursor can (length params) rows (due.Next rows, got.End) made refl m.good m.cursor;
+  are_over = refl;
+  next_close = let laws = rows_are_closed in laws.cursor can (length params) rows (due.Next rows, got.End) made refl m.good m.cursor;
   sends = then_close can params aim rows got.End made gave_nothing.2 m.good m.cursor;
 }
 fetch_keeps can text params aim own rows it (Fail why) made m fit not_bad = record {
@@ -234,8 +234,8 @@ fetch_keeps can text params aim own rows it (Fail why) made m fit not_bad = reco
   handle = m.handle;
   cursor = m.cursor;
   good = m.good;
-  is_over = refl;
-  closing = let laws = rows_are_closed in laws.cursor can (length params) rows (due.Next rows, got.Fail) made refl m.good m.cursor;
+  are_over = refl;
+  next_close = let laws = rows_are_closed in laws.cursor can (length params) rows (due.Next rows, got.Fail) made refl m.good m.cursor;
   sends = then_close can params aim rows got.Fail made gave_nothing.3 m.good m.cursor;
 }
 fetch_keeps can text params aim own rows it Bad made m fit not_bad = absurd (never not_bad)
@@ -262,9 +262,9 @@ left_handle can args rows handle answer made (Some h) own good is =
     let number : h.0 ≡ handle = cc in
     laws.handle can args rows h.0 h.1 answer made good own ∙ ap due.CloseStmt number
 
-closing : (x : Option (ℕ × ℤ)) (handle : ℕ) → option_map (λ h. h.0) x ≡ Some handle → option_map (λ h. due.CloseStmt h.0) x ≡ Some (due.CloseStmt handle)
-closing None handle h = absurd cc
-closing (Some p) handle h = ap (λ o. option_map (λ n. due.CloseStmt n) o) h
+close_of : (x : Option (ℕ × ℤ)) (handle : ℕ) → option_map (λ h. h.0) x ≡ Some handle → option_map (λ h. due.CloseStmt h.0) x ≡ Some (due.CloseStmt handle)
+close_of None handle h = absurd cc
+close_of (Some p) handle h = ap (λ o. option_map (λ n. due.CloseStmt n) o) h
 
 none_left : (x : Option (ℕ × ℤ)) → option_map (λ h. h.0) x ≡ None → x ≡ None
 none_left None h = refl
@@ -275,13 +275,13 @@ handle_left : (can : Caps) (text : List ℕ) (params : List Param) (aim : Aim) (
 handle_left can text params aims.Execute handle rows over it answer made m n = absurd (impossible m.reads)
 handle_left can text params aims.Ping handle rows over it answer made m n = absurd (impossible m.reads)
 handle_left can text params aims.ReadOne handle rows over it answer made m n =
-    record { sends = λ w. rw (n.good, n.handle, m.good, closing (own_handle made) handle m.handle) refl; is_over = λ r is. absurd cc }
+    record { sends = λ w. rw (n.good, n.handle, m.good, close_of (own_handle made) handle m.handle) refl; are_over = λ r is. absurd cc }
 handle_left can text params aims.HandOut handle rows over it answer made m n =
     let own : own_handle ((due.CloseRows rows, answer) ∷ made) ≡ own_handle made = rw n.handle refl in
     let good : went_bad ((due.CloseRows rows, answer) ∷ made) ≡ false = rw n.good m.good in
     record {
       sends = λ w. rw (n.cursor, m.cursor, left_handle can (length params) rows handle answer made (own_handle made) own good m.handle) refl;
-      is_over = λ r is. refl;
+      are_over = λ r is. refl;
     }
 
 nothing_left : (can : Caps) (text : List ℕ) (params : List Param) (aim : Aim) (rows : ℕ) (over : Bool) (it : Due) (answer : Got) (made : List Exchange)
@@ -357,7 +357,7 @@ pinged_next can text params aim s _ fit = absurd (impossible fit)
 
 -- The exchanges after a driver call of the body that is due are those of the next step.
 body_next : (can : Caps) (text : List ℕ) (params : List Param) (aim : Aim) (w : Wish) (s : Step) (q : DriverCall) (a : DriverAnswer) (made : List Exchange) → MadeAt can (asking text params aim) s made
-    → is_due (body_after can false (asking text params aim) w made) q ≡ true → goes s q ≡ true → (fits_of q a && not (is_memory a)) ≡ true
+    → is_due_in_line (body_after can false (asking text params aim) w made) q ≡ true → goes s q ≡ true → (fits_of q a && not (is_memory a)) ≡ true
     → MadeAt can (asking text params aim) (step_after s q a) (with_exchange (step_of q) a made)
 body_next can text params aim w Start (Exec (Text t) ps) a made m h g fit = rw m (text_executed can text params aim w Start t ps a (rw m at h) fit)
 body_next can text params aim w WasReset (Exec (Text t) ps) a made m h g fit = rw m (text_executed can text params aim w WasReset t ps a (rw m at h) fit)
@@ -375,7 +375,7 @@ body_next can text params aim w (WasPrepared given) (Query (Handle handle) ps) a
     let is : given ≡ handle = same_number given handle g in
     handle_queried can text params aim w (WasPrepared given) handle ps a made (rw is at m) h fit
 body_next can text params aim w (WasPrepared given) (CloseStmt handle) a made m h g fit = handle_closed can text params aim (WasPrepared given) handle a made fit (none_handed aim made m.none)
-body_next can text params aim w (WasRun given) (CloseStmt handle) a made m h g fit = handle_closed can text params aim (WasRun given) handle a made fit m.is_over
+body_next can text params aim w (WasRun given) (CloseStmt handle) a made m h g fit = handle_closed can text params aim (WasRun given) handle a made fit m.are_over
 body_next can text params aim w (HasRows own given) (Next rows) a made m h g fit =
     let is : given ≡ rows = same_number given rows g in
     rw is (first_fetched can text params aim own rows a made (rw is at m) fit)
@@ -404,7 +404,7 @@ body_next can text params aim w Start Reset a made m h g fit = m
 body_next can text params aim w _ q a made m h g fit = absurd (impossible g)
 
 pub made_next : (can : Caps) (asked : Asked) (w : Wish) (s : Step) (q : DriverCall) (a : DriverAnswer) (made : List Exchange) → is_ended s ≡ false → MadeAt can asked s made
-    → is_due (body_after can false asked w made) q ≡ true → (fits_of q a && not (is_memory a)) ≡ true → MadeAt can asked (step_after s q a) (with_exchange (step_of q) a made)
+    → is_due_in_line (body_after can false asked w made) q ≡ true → (fits_of q a && not (is_memory a)) ≡ true → MadeAt can asked (step_after s q a) (with_exchange (step_of q) a made)
 made_next can asked w s q a made going m h fit = body_next can asked.text asked.params asked.aim w s q a made m h (goes_body can asked w s made q going m h) fit
 
 -- A Reset comes before all exchanges and adds none.

@@ -2,7 +2,6 @@
 use Rattle.std.proofs.Common.{◌≡◌, ℕ, true, false, not, ◌==◌, ◌&&◌, List, [], ◌∷◌, refl, ◌∙◌}
 use Rattle.std.specs.List.{list_all, filter}
 use native.Mathlib.Omega.{arith}
-use Rattle.std.proofs.lemmas.Bool.Decides.{nat_tests}
 use Rattle.dsql_history_work.specs.driver.declared.call.DriverCall.{DriverCall}
 use Rattle.dsql_history_work.specs.driver.declared.call.DriverCall.TheVariants.{Reset, Valid, Ping, Prepare, Exec, Query, Next, CloseRows, CloseStmt}
 use Rattle.dsql_history_work.specs.driver.declared.answer.DriverAnswer.{DriverAnswer}
@@ -10,7 +9,7 @@ use Rattle.dsql_history_work.specs.driver.declared.answer.DriverAnswer.TheVarian
 use Rattle.dsql_history_work.specs.journal.declared.entry.Entry.{Entry}
 use Rattle.dsql_history_work.specs.journal.Kinds.{is_call}
 use Rattle.dsql_history_work.specs.journal.Readers.{LiveHandle, is_empty, handles, handles_after, cursors, begun, was_refused, was_shut}
-use Rattle.dsql_history_work.proofs.journal.PlainJournals.{Plain}
+use Rattle.dsql_history_work.proofs.journal.PlainJournals.{Plain, still_one}
 use Rattle.dsql_laws_work.proofs.CallLines.{is_sent, sent_entry}
 
 -- Holds if connection c is open and not shut. Its live handles belong to calls, and no transaction was begun on
@@ -31,9 +30,6 @@ pub served_of : (c : ℕ) (J : List Entry) → Plain c J → Served c J
 served_of c J p =
     record { one = p.one; opened = p.opened; not_refused = p.not_refused; not_shut = p.not_shut; call_handles = p.call_handles; none_begun = p.none_begun }
 
-goes_on : (c : ℕ) (J : List Entry) → list_all (λ x. x.conn == c) J ≡ true → (c == c) && list_all (λ x. x.conn == c) J ≡ true
-goes_on c J one = grind (arith, nat_tests, one)
-
 own_more : (live : List LiveHandle) (handle : ℕ) → list_all (λ h. is_call h.owner) live ≡ true → list_all (λ h. is_call h.owner) (filter (λ h. not (h.number == handle)) live) ≡ true
 own_more [] handle all = refl
 own_more (x ∷ live) handle all = grind (arith, all, own_more live handle)
@@ -48,7 +44,7 @@ handles_own c t n m _ answer live all = all
 served_with : (c t n m : ℕ) (q : DriverCall) (a : DriverAnswer) (J : List Entry) → Served c J → was_refused (sent_entry c t n m q a ∷ J) ≡ was_refused J → was_shut (sent_entry c t n m q a ∷ J) ≡ was_shut J
     → begun (sent_entry c t n m q a ∷ J) ≡ begun J → Served c (sent_entry c t n m q a ∷ J)
 served_with c t n m q a J s refused shut begin = record {
-  one = goes_on c J s.one;
+  one = still_one c J s.one;
   opened = refl;
   not_refused = refused ∙ s.not_refused;
   not_shut = shut ∙ s.not_shut;

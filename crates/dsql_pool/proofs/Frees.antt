@@ -6,7 +6,7 @@ use Rattle.std.proofs.lemmas.Bool.Decides.{nat_tests}
 use Rattle.std.proofs.lemmas.List.Sums.{sum_by-append}
 use Rattle.dsql_pool.specs.declared.conn.Conn.{Conn}
 use Rattle.dsql_pool.specs.Places.{conn_of}
-use Rattle.dsql_pool.specs.Changes.{changed, gone}
+use Rattle.dsql_pool.specs.Changes.{conn_changed, gone}
 
 -- Returns 1 if a connection was found and passes, and otherwise 0.
 abbrev pub passing : (Conn → Bool) → Option Conn → ℕ
@@ -19,12 +19,12 @@ count-cons q x xs = let split = sum_by-append (λ (y : Conn). cond (q y) 1 0) (x
 pub count-more : (q : Conn → Bool) (x : Conn) (xs : List Conn) → count_by q (xs ++ x ∷ []) ≡ count_by q xs + cond (q x) 1 0
 count-more q x xs = let split = sum_by-append (λ (y : Conn). cond (q y) 1 0) xs (x ∷ []) in omega (arith, split)
 
-pub count-changed : (q : Conn → Bool) (c : ℕ) (f : Conn → Conn) (conns : List Conn) → count_by q (changed c f conns) + passing q (conn_of c conns) ≡ count_by q conns + passing q (option_map f (conn_of c conns))
+pub count-changed : (q : Conn → Bool) (c : ℕ) (f : Conn → Conn) (conns : List Conn) → count_by q (conn_changed c f conns) + passing q (conn_of c conns) ≡ count_by q conns + passing q (option_map f (conn_of c conns))
 count-changed q c f [] = refl
 count-changed q c f (x ∷ xs) =
-    elim (eqb x.number c) as (λ b. count_by q (cond b (f x ∷ xs) (x ∷ changed c f xs)) + passing q (cond b (Some x) (conn_of c xs)) ≡ count_by q (x ∷ xs) + passing q (option_map f (cond b (Some x) (conn_of c xs)))) [
+    elim (eqb x.number c) as (λ b. count_by q (cond b (f x ∷ xs) (x ∷ conn_changed c f xs)) + passing q (cond b (Some x) (conn_of c xs)) ≡ count_by q (x ∷ xs) + passing q (option_map f (cond b (Some x) (conn_of c xs)))) [
       | true ↦ let before = count-cons q x xs in let after = count-cons q (f x) xs in omega (arith, before, after)
-      | false ↦ let before = count-cons q x xs in let after = count-cons q x (changed c f xs) in let rest = count-changed q c f xs in omega (arith, before, after, rest)
+      | false ↦ let before = count-cons q x xs in let after = count-cons q x (conn_changed c f xs) in let rest = count-changed q c f xs in omega (arith, before, after, rest)
     ]
 
 pub count-map : (q : Conn → Bool) (f : Conn → Conn) (conns : List Conn) → ((x : Conn) → q x ≡ true → q (f x) ≡ true) → count_by q conns ≤ count_by q (map f conns)
@@ -41,9 +41,9 @@ count-map q f (x ∷ xs) keeps =
     in
     omega (arith, rest, before, after, grows)
 
-pub length-changed : (c : ℕ) (f : Conn → Conn) (conns : List Conn) → length (changed c f conns) ≡ length conns
+pub length-changed : (c : ℕ) (f : Conn → Conn) (conns : List Conn) → length (conn_changed c f conns) ≡ length conns
 length-changed c f [] = refl
-length-changed c f (x ∷ xs) = elim (eqb x.number c) as (λ b. length (cond b (f x ∷ xs) (x ∷ changed c f xs)) ≡ length (x ∷ xs)) [ true ↦ refl | false ↦ ap suc (length-changed c f xs) ]
+length-changed c f (x ∷ xs) = elim (eqb x.number c) as (λ b. length (cond b (f x ∷ xs) (x ∷ conn_changed c f xs)) ≡ length (x ∷ xs)) [ true ↦ refl | false ↦ ap suc (length-changed c f xs) ]
 
 pub length-gone : (c : ℕ) (conns : List Conn) → length (gone c conns) ≤ length conns
 length-gone c [] = omega arith

@@ -10,7 +10,7 @@ use Rattle.dsql_pool.specs.declared.moves.CloseCause.{CloseCause}
 use Rattle.dsql_pool.specs.declared.moves.Move.{Move}
 use Rattle.dsql_pool.specs.declared.moves.Move.TheVariants.{CloseStart}
 use Rattle.dsql_pool.specs.Places.{conn_of, is_idle, is_free}
-use Rattle.dsql_pool.specs.Changes.{changed, closing}
+use Rattle.dsql_pool.specs.Changes.{conn_changed, closing}
 use Rattle.dsql_pool.specs.Pooled.{Pooled}
 use Rattle.dsql_pool.specs.Moved.{moved, made}
 use Rattle.dsql_pool.specs.Decisions.{starts_closing, closing_for, closing_at, cause_at}
@@ -65,7 +65,7 @@ still_idle =
     let before = rest d x found is in
     elim (eqb d c) as (λ b. eqb d c ≡ b → (conn_of d p.conns ≡ Some x) × (cond (eqb c d) (suc (times d (out ms))) (times d (out ms)) ≡ 0)) [
       | true ↦ λ same.
-          let there = ap (λ n. conn_of n (changed c closing p.conns)) (sym (eqb-true d c same)) ∙ before.0 in
+          let there = ap (λ n. conn_of n (conn_changed c closing p.conns)) (sym (eqb-true d c same)) ∙ before.0 in
           let y = mapped closing (conn_of c p.conns) x (sym (found_changed c closing (λ _. refl) p.conns) ∙ there) in
           let not : true ≡ false = sym is ∙ ap (λ (z : Conn). is_idle (Some z.place)) y.2 in
           cc
@@ -91,12 +91,12 @@ as_many_free =
     let here : passing free (conn_of c p.conns) ≡ 0 = h c (λ none. let some : times c (c ∷ out ms) ≡ suc (times c (out ms)) = ap (λ (b : Bool). cond b (suc (times c (out ms))) (times c (out ms))) (eq-eqb c c refl) in omega (arith, some, none)) in
     let gone = closed_is_none (conn_of c p.conns) in
     let change = count-changed free c closing p.conns in
-    let before : count_by free (changed c closing p.conns) ≡ count_by free p.conns = omega (arith, here, gone, change) in
+    let before : count_by free (conn_changed c closing p.conns) ≡ count_by free p.conns = omega (arith, here, gone, change) in
     rest
     (λ d some.
-    elim (eqb d c) as (λ b. eqb d c ≡ b → passing free (conn_of d (changed c closing p.conns)) ≡ 0) [
+    elim (eqb d c) as (λ b. eqb d c ≡ b → passing free (conn_of d (conn_changed c closing p.conns)) ≡ 0) [
       | true ↦ λ same.
-          ap (λ n. passing free (conn_of n (changed c closing p.conns))) (eqb-true d c same)
+          ap (λ n. passing free (conn_of n (conn_changed c closing p.conns))) (eqb-true d c same)
           ∙ (ap (passing free) (found_changed c closing (λ _. refl) p.conns) ∙ closed_is_none (conn_of c p.conns))
       | false ↦ λ apart.
           ap (passing free) (found_beside c d closing (λ _. refl) p.conns apart)

@@ -6,7 +6,7 @@ use Rattle.std.proofs.lemmas.List.Folds.{find-append}
 use Rattle.dsql_tenure_journal.specs.declared.entry.Owner.{Owner}
 use Rattle.dsql_pool.specs.declared.conn.Conn.{Conn}
 use Rattle.dsql_pool.specs.Places.{conn_of, is_idle}
-use Rattle.dsql_pool.specs.Changes.{changed, gone, opening}
+use Rattle.dsql_pool.specs.Changes.{conn_changed, gone, opening}
 use Rattle.dsql_pool.specs.Pooled.{without}
 use Rattle.dsql_pool.specs.Rest.{times}
 use Rattle.dsql_pool.proofs.Found.{KeepsNumber, found_changed, found_beside}
@@ -34,16 +34,16 @@ never_idle : (f : Conn → Conn) → ((x : Conn) → is_idle (Some (f x).place) 
 never_idle f never None = refl
 never_idle f never (Some x) = never x
 
-pub placed_away : (c : ℕ) (f : Conn → Conn) → KeepsNumber f → ((x : Conn) → is_idle (Some (f x).place) ≡ false) → (idle : List ℕ) (conns : List Conn) → Placed idle conns → Placed (without c idle) (changed c f conns)
+pub placed_away : (c : ℕ) (f : Conn → Conn) → KeepsNumber f → ((x : Conn) → is_idle (Some (f x).place) ≡ false) → (idle : List ℕ) (conns : List Conn) → Placed idle conns → Placed (without c idle) (conn_changed c f conns)
 placed_away c f keeps never idle conns h =
-    by_number (λ d. times d (without c idle) ≡ cond (idle_in (conn_of d (changed c f conns))) 1 0) c
+    by_number (λ d. times d (without c idle) ≡ cond (idle_in (conn_of d (conn_changed c f conns))) 1 0) c
     (times-without_same c idle
     ∙ sym (ap (λ (o : Option Conn). cond {A = ℕ} (idle_in o) 1 0) (found_changed c f keeps conns) ∙ ap (λ (b : Bool). cond {A = ℕ} b 1 0) (never_idle f never (conn_of c conns))))
     (λ d apart. times-without_other c d idle apart ∙ (h d ∙ sym (ap (λ (o : Option Conn). cond {A = ℕ} (idle_in o) 1 0) (found_beside c d f keeps conns apart))))
 
-pub placed_back : (c : ℕ) (f : Conn → Conn) → KeepsNumber f → (x : Conn) (idle : List ℕ) (conns : List Conn) → conn_of c conns ≡ Some x → is_idle (Some x.place) ≡ false → is_idle (Some (f x).place) ≡ true → Placed idle conns → Placed (idle ++ c ∷ []) (changed c f conns)
+pub placed_back : (c : ℕ) (f : Conn → Conn) → KeepsNumber f → (x : Conn) (idle : List ℕ) (conns : List Conn) → conn_of c conns ≡ Some x → is_idle (Some x.place) ≡ false → is_idle (Some (f x).place) ≡ true → Placed idle conns → Placed (idle ++ c ∷ []) (conn_changed c f conns)
 placed_back c f keeps x idle conns found busy now h =
-    by_number (λ d. times d (idle ++ c ∷ []) ≡ cond (idle_in (conn_of d (changed c f conns))) 1 0) c
+    by_number (λ d. times d (idle ++ c ∷ []) ≡ cond (idle_in (conn_of d (conn_changed c f conns))) 1 0) c
     (let none : times c idle ≡ 0 = h c ∙ (ap (λ (o : Option Conn). cond {A = ℕ} (idle_in o) 1 0) found ∙ ap (λ (b : Bool). cond {A = ℕ} b 1 0) busy) in
     times-more_same c idle
     ∙ (ap suc none

@@ -14,7 +14,7 @@ use Rattle.dsql_pool.specs.declared.moves.CloseCause.TheVariants as for
 use Rattle.dsql_pool.specs.declared.moves.Move.TheVariants.{Lend, Back}
 use Rattle.dsql_pool.specs.declared.moves.Outcome.TheVariants.{Closes, Serves, Rests}
 use Rattle.dsql_pool.specs.Places.{conn_of, is_idle}
-use Rattle.dsql_pool.specs.Changes.{changed, lent, back, opened_at}
+use Rattle.dsql_pool.specs.Changes.{conn_changed, lent, back, opened_at}
 use Rattle.dsql_pool.specs.Pooled.{Pooled, open_count, free_openings, most_allowed, without}
 use Rattle.dsql_pool.specs.Moved.{moved, made}
 use Rattle.dsql_pool.specs.Decisions.{is_over_limit, when_kept, when_good}
@@ -87,7 +87,7 @@ back_rests c x p h found busy keeps young =
     wholly q
     (record {
       placed = placed_back c (back p.moment) (λ _. refl) x p.idle p.conns found busy refl h.placed;
-      most = kept_many p (length (changed c (back p.moment) p.conns)) (omega (arith, same)) h.most;
+      most = kept_many p (length (conn_changed c (back p.moment) p.conns)) (omega (arith, same)) h.most;
       served = or_right (is_empty q.idle) (list_all (λ r. r.last) p.waiting) (all_none p.waiting keeps.nobody);
       few = le_true (length (p.idle ++ c ∷ [])) p.limits.max_idle (let below = lt_of (length p.idle) p.limits.max_idle keeps.below in omega (arith, below, many));
       young =
@@ -127,25 +127,25 @@ served_rests c tenure owner x r rs p waits h found busy not_free open_still =
     let bring = back p.moment in
     let turned = came_and_went c p.idle in
     let same = length-changed c bring p.conns in
-    let again = length-changed c give (changed c bring p.conns) in
+    let again = length-changed c give (conn_changed c bring p.conns) in
     let one = count-changed free c bring p.conns in
-    let two = count-changed free c give (changed c bring p.conns) in
-    let none = lent_is_none tenure p.moment owner (conn_of c (changed c bring p.conns)) in
+    let two = count-changed free c give (conn_changed c bring p.conns) in
+    let none = lent_is_none tenure p.moment owner (conn_of c (conn_changed c bring p.conns)) in
     let came = back_is_none p.moment (conn_of c p.conns) in
-    let idle_then : passing free (conn_of c (changed c bring p.conns)) ≡ 0 = ap (passing free) (found_changed c bring (λ _. refl) p.conns) ∙ came in
+    let idle_then : passing free (conn_of c (conn_changed c bring p.conns)) ≡ 0 = ap (passing free) (found_changed c bring (λ _. refl) p.conns) ∙ came in
     let was : passing free (conn_of c p.conns) ≡ 0 = ap (passing free) found ∙ ap (λ (t : Bool). cond {A = ℕ} t 1 0) not_free in
     let fewer = fewer_requests (λ (s : Request). not (eqb s.call r.call)) p.waiting in
     wholly q
     (record {
-      placed = placed_away c give (λ _. refl) (λ _. refl) (p.idle ++ c ∷ []) (changed c bring p.conns) (placed_back c bring (λ _. refl) x p.idle p.conns found busy refl h.placed);
-      most = kept_many p (length (changed c give (changed c bring p.conns))) (omega (arith, same, again)) h.most;
+      placed = placed_away c give (λ _. refl) (λ _. refl) (p.idle ++ c ∷ []) (conn_changed c bring p.conns) (placed_back c bring (λ _. refl) x p.idle p.conns found busy refl h.placed);
+      most = kept_many p (length (conn_changed c give (conn_changed c bring p.conns))) (omega (arith, same, again)) h.most;
       served = or_kept (is_empty p.idle) (list_all (λ s. s.last) p.waiting) (is_empty q.idle) (list_all (λ s. s.last) q.waiting) h.served turned.1 (all_filter (λ (s : Request). s.last) (λ (s : Request). not (eqb s.call r.call)) p.waiting);
       few = let few = true_le (length p.idle) p.limits.max_idle h.few in let less = turned.0 in le_true (length q.idle) p.limits.max_idle (omega (arith, few, less));
       young =
-          young_off p.limits p.moment c p.conns (changed c give (changed c bring p.conns))
-          (λ d apart. found_beside c d give (λ _. refl) (changed c bring p.conns) apart ∙ found_beside c d bring (λ _. refl) p.conns apart)
+          young_off p.limits p.moment c p.conns (conn_changed c give (conn_changed c bring p.conns))
+          (λ d apart. found_beside c d give (λ _. refl) (conn_changed c bring p.conns) apart ∙ found_beside c d bring (λ _. refl) p.conns apart)
           (λ y there is.
-          let z = mapped give (conn_of c (changed c bring p.conns)) y (sym (found_changed c give (λ _. refl) (changed c bring p.conns)) ∙ there) in
+          let z = mapped give (conn_of c (conn_changed c bring p.conns)) y (sym (found_changed c give (λ _. refl) (conn_changed c bring p.conns)) ∙ there) in
           let no : true ≡ false = sym is ∙ ap (λ (w : Conn). is_idle (Some w.place)) z.2 in
           cc)
           (young_at p h);

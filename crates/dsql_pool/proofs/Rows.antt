@@ -9,7 +9,7 @@ use Rattle.std.proofs.lemmas.List.Folds.{find_at, list_all-append}
 use Rattle.dsql_pool.specs.declared.conn.Place.TheVariants.{Opening}
 use Rattle.dsql_pool.specs.declared.conn.Conn.{Conn}
 use Rattle.dsql_pool.specs.Places.{conn_of, is_opening, is_for, is_drawn, AreDrawn}
-use Rattle.dsql_pool.specs.Changes.{changed, gone, unwanted, unwanted_by}
+use Rattle.dsql_pool.specs.Changes.{conn_changed, gone, unwanted, unwanted_by}
 
 -- Returns the place of the first connection with this number, or the length if there is none.
 abbrev pub first : ℕ → List Conn → ℕ
@@ -18,35 +18,35 @@ first c conns = position_or_len (λ (conn : Conn). eqb conn.number c) conns
 one_add : (n : ℕ) → 1 + n ≡ suc n
 one_add n = omega arith
 
-put_there : (c : ℕ) (y : Conn) (conns : List Conn) → first c conns < length conns → slice_set conns (first c conns) y ≡ changed c (λ _. y) conns
+put_there : (c : ℕ) (y : Conn) (conns : List Conn) → first c conns < length conns → slice_set conns (first c conns) y ≡ conn_changed c (λ _. y) conns
 put_there c y [] within = absurd (omega arith)
 put_there c y (x ∷ xs) within =
-    elim (eqb x.number c) as (λ b. cond (not b) (1 + first c xs) 0 < suc (length xs) → slice_set (x ∷ xs) (cond (not b) (1 + first c xs) 0) y ≡ cond b (y ∷ xs) (x ∷ changed c (λ _. y) xs)) [
+    elim (eqb x.number c) as (λ b. cond (not b) (1 + first c xs) 0 < suc (length xs) → slice_set (x ∷ xs) (cond (not b) (1 + first c xs) 0) y ≡ cond b (y ∷ xs) (x ∷ conn_changed c (λ _. y) xs)) [
       | true ↦ λ lt. refl
       | false ↦ λ lt. rw (one_add (first c xs)) (ap (λ (ys : List Conn). x ∷ ys) (put_there c y xs (omega arith)))
     ] within
 
-left_alone : (c : ℕ) (f : Conn → Conn) (conns : List Conn) → (first c conns < length conns → ⊥) → changed c f conns ≡ conns
+left_alone : (c : ℕ) (f : Conn → Conn) (conns : List Conn) → (first c conns < length conns → ⊥) → conn_changed c f conns ≡ conns
 left_alone c f [] past = refl
 left_alone c f (x ∷ xs) past =
-    elim (eqb x.number c) as (λ b. (cond (not b) (1 + first c xs) 0 < suc (length xs) → ⊥) → cond b (f x ∷ xs) (x ∷ changed c f xs) ≡ x ∷ xs) [
+    elim (eqb x.number c) as (λ b. (cond (not b) (1 + first c xs) 0 < suc (length xs) → ⊥) → cond b (f x ∷ xs) (x ∷ conn_changed c f xs) ≡ x ∷ xs) [
       | true ↦ λ no. absurd (no (omega arith))
       | false ↦ λ no. ap (λ (ys : List Conn). x ∷ ys) (left_alone c f xs (λ within. no (omega arith)))
     ] past
 
 -- Putting a connection at the place of its number changes the one that has this number.
-pub put_some : (c at : ℕ) (y : Conn) (conns : List Conn) → Some at ≡ position (λ (conn : Conn). eqb conn.number c) conns → slice_set conns at y ≡ changed c (λ _. y) conns
+pub put_some : (c at : ℕ) (y : Conn) (conns : List Conn) → Some at ≡ position (λ (conn : Conn). eqb conn.number c) conns → slice_set conns at y ≡ conn_changed c (λ _. y) conns
 put_some c at y conns e =
-    elim (ltb (first c conns) (length conns)) as (λ b. ltb (first c conns) (length conns) ≡ b → Some at ≡ cond b (Some (first c conns)) None → slice_set conns at y ≡ changed c (λ _. y) conns) [
+    elim (ltb (first c conns) (length conns)) as (λ b. ltb (first c conns) (length conns) ≡ b → Some at ≡ cond b (Some (first c conns)) None → slice_set conns at y ≡ conn_changed c (λ _. y) conns) [
       | true ↦ λ within same.
           let here : at ≡ first c conns = cc in
           ap (λ (n : ℕ). slice_set conns n y) here ∙ put_there c y conns (ltb-true (first c conns) (length conns) within)
       | false ↦ λ past same. cc
     ] refl e
 
-pub put_none : (c : ℕ) (f : Conn → Conn) (conns : List Conn) → None ≡ position (λ (conn : Conn). eqb conn.number c) conns → changed c f conns ≡ conns
+pub put_none : (c : ℕ) (f : Conn → Conn) (conns : List Conn) → None ≡ position (λ (conn : Conn). eqb conn.number c) conns → conn_changed c f conns ≡ conns
 put_none c f conns e =
-    elim (ltb (first c conns) (length conns)) as (λ b. ltb (first c conns) (length conns) ≡ b → None ≡ cond b (Some (first c conns)) None → changed c f conns ≡ conns) [
+    elim (ltb (first c conns) (length conns)) as (λ b. ltb (first c conns) (length conns) ≡ b → None ≡ cond b (Some (first c conns)) None → conn_changed c f conns ≡ conns) [
       | true ↦ λ within same. cc
       | false ↦ λ past same. left_alone c f conns (λ within. let lt : ltb (first c conns) (length conns) ≡ true = grind (arith, nat_tests) in cc)
     ] refl e
@@ -60,24 +60,24 @@ has_number c x (y ∷ ys) e =
       | false ↦ λ behind same. has_number c x ys same
     ] refl e
 
-put_is_change : (c : ℕ) (f : Conn → Conn) (x : Conn) (conns : List Conn) → conn_of c conns ≡ Some x → changed c (λ _. f x) conns ≡ changed c f conns
+put_is_change : (c : ℕ) (f : Conn → Conn) (x : Conn) (conns : List Conn) → conn_of c conns ≡ Some x → conn_changed c (λ _. f x) conns ≡ conn_changed c f conns
 put_is_change c f x [] e = refl
 put_is_change c f x (y ∷ ys) e =
-    elim (eqb y.number c) as (λ b. cond b (Some y) (conn_of c ys) ≡ Some x → cond b (f x ∷ ys) (y ∷ changed c (λ _. f x) ys) ≡ cond b (f y ∷ ys) (y ∷ changed c f ys)) [
+    elim (eqb y.number c) as (λ b. cond b (Some y) (conn_of c ys) ≡ Some x → cond b (f x ∷ ys) (y ∷ conn_changed c (λ _. f x) ys) ≡ cond b (f y ∷ ys) (y ∷ conn_changed c f ys)) [
       | true ↦ λ same. let is : y ≡ x = cc in ap (λ (z : Conn). f z ∷ ys) (sym is)
       | false ↦ λ same. ap (λ (zs : List Conn). y ∷ zs) (put_is_change c f x ys same)
     ] e
 
 -- Putting back a changed connection is changing the connection that was found.
-pub changed_found : (c : ℕ) (f : Conn → Conn) (x : Conn) (conns : List Conn) → Some x ≡ conn_of c conns → (f x).number ≡ x.number → changed (f x).number (λ _. f x) conns ≡ changed c f conns
+pub changed_found : (c : ℕ) (f : Conn → Conn) (x : Conn) (conns : List Conn) → Some x ≡ conn_of c conns → (f x).number ≡ x.number → conn_changed (f x).number (λ _. f x) conns ≡ conn_changed c f conns
 changed_found c f x conns e keeps =
     let number = keeps ∙ has_number c x conns (sym e) in
-    ap (λ (n : ℕ). changed n (λ _. f x) conns) number ∙ put_is_change c f x conns (sym e)
+    ap (λ (n : ℕ). conn_changed n (λ _. f x) conns) number ∙ put_is_change c f x conns (sym e)
 
-pub changed_missing : (c : ℕ) (f : Conn → Conn) (conns : List Conn) → None ≡ conn_of c conns → changed c f conns ≡ conns
+pub changed_missing : (c : ℕ) (f : Conn → Conn) (conns : List Conn) → None ≡ conn_of c conns → conn_changed c f conns ≡ conns
 changed_missing c f [] e = refl
 changed_missing c f (y ∷ ys) e =
-    elim (eqb y.number c) as (λ b. None ≡ cond b (Some y) (conn_of c ys) → cond b (f y ∷ ys) (y ∷ changed c f ys) ≡ y ∷ ys) [
+    elim (eqb y.number c) as (λ b. None ≡ cond b (Some y) (conn_of c ys) → cond b (f y ∷ ys) (y ∷ conn_changed c f ys) ≡ y ∷ ys) [
       | true ↦ λ same. cc
       | false ↦ λ same. ap (λ (zs : List Conn). y ∷ zs) (changed_missing c f ys same)
     ] e
@@ -111,14 +111,14 @@ pub all_map : (p : Conn → Bool) (f : Conn → Conn) (conns : List Conn) → ((
 all_map p f [] step h = refl
 all_map p f (x ∷ xs) step h = both (p (f x)) (list_all p (map f xs)) (step x (left_of (p x) (list_all p xs) h)) (all_map p f xs step (right_of (p x) (list_all p xs) h))
 
-pub all_changed : (p : Conn → Bool) (c : ℕ) (f : Conn → Conn) (conns : List Conn) → ((x : Conn) → p x ≡ true → p (f x) ≡ true) → list_all p conns ≡ true → list_all p (changed c f conns) ≡ true
+pub all_changed : (p : Conn → Bool) (c : ℕ) (f : Conn → Conn) (conns : List Conn) → ((x : Conn) → p x ≡ true → p (f x) ≡ true) → list_all p conns ≡ true → list_all p (conn_changed c f conns) ≡ true
 all_changed p c f [] step h = refl
 all_changed p c f (x ∷ xs) step h =
     let here = left_of (p x) (list_all p xs) h in
     let rest = right_of (p x) (list_all p xs) h in
-    elim (eqb x.number c) as (λ b. list_all p (cond b (f x ∷ xs) (x ∷ changed c f xs)) ≡ true) [
+    elim (eqb x.number c) as (λ b. list_all p (cond b (f x ∷ xs) (x ∷ conn_changed c f xs)) ≡ true) [
       | true ↦ both (p (f x)) (list_all p xs) (step x here) rest
-      | false ↦ both (p x) (list_all p (changed c f xs)) here (all_changed p c f xs step rest)
+      | false ↦ both (p x) (list_all p (conn_changed c f xs)) here (all_changed p c f xs step rest)
     ]
 
 -- A bound on lendings and uses still holds after more openings and lendings have begun.
@@ -144,7 +144,7 @@ found_passes p c x (y ∷ ys) h e =
     ] e
 
 -- The rows stay within the counts after one of them was put in its place.
-pub drawn_put : (d e c : ℕ) (y : Conn) (opened : ℕ) (old new : List Conn) → d ≤ e → new ≡ changed c (λ _. y) old → y.lends ≤ e → y.uses ≤ e → AreDrawn old opened d → AreDrawn new opened e
+pub drawn_put : (d e c : ℕ) (y : Conn) (opened : ℕ) (old new : List Conn) → d ≤ e → new ≡ conn_changed c (λ _. y) old → y.lends ≤ e → y.uses ≤ e → AreDrawn old opened d → AreDrawn new opened e
 drawn_put d e c y opened old new le is lends uses h = record {
   counted = let before = h.counted in omega (arith, before, le);
   lent =

@@ -15,7 +15,7 @@ use Rattle.dsql_pool.specs.declared.conn.Conn.{Conn}
 use Rattle.dsql_pool.specs.declared.moves.CloseCause.{CloseCause}
 use Rattle.dsql_pool.specs.declared.moves.Move.TheVariants.{Lend, CloseStart}
 use Rattle.dsql_pool.specs.Places.{conn_of}
-use Rattle.dsql_pool.specs.Changes.{changed, lent, back, closing, opened_at}
+use Rattle.dsql_pool.specs.Changes.{conn_changed, lent, back, closing, opened_at}
 use Rattle.dsql_pool.specs.Pooled.{Pooled, open_count, free_openings, most_allowed, most_open, without}
 use Rattle.dsql_pool.specs.Moved.{moved}
 use Rattle.dsql_pool.specs.Rest.{AtRest, opens_enough}
@@ -40,7 +40,7 @@ lend_rests c tenure n owner p h enough =
     wholly (moved (Lend c tenure owner n) p)
     (record {
       placed = placed_away c (lent tenure owner p.moment) (λ _. refl) (λ _. refl) p.idle p.conns h.placed;
-      most = kept_many p (length (changed c (lent tenure owner p.moment) p.conns)) (let same = length-changed c (lent tenure owner p.moment) p.conns in omega (arith, same)) h.most;
+      most = kept_many p (length (conn_changed c (lent tenure owner p.moment) p.conns)) (let same = length-changed c (lent tenure owner p.moment) p.conns in omega (arith, same)) h.most;
       served = or_kept (is_empty p.idle) (list_all (λ r. r.last) p.waiting) (is_empty (without c p.idle)) (list_all (λ r. r.last) (without_call n p.waiting)) h.served (empty-without c p.idle) (all_filter (λ (r : Request). r.last) (others n) p.waiting);
       few = let less = length-without c p.idle in let few = true_le (length p.idle) p.limits.max_idle h.few in le_true (length (without c p.idle)) p.limits.max_idle (omega (arith, less, few));
       young = young_away p.limits p.moment c (lent tenure owner p.moment) p.conns (λ _. refl) (λ _. refl) (young_at p h);
@@ -95,7 +95,7 @@ close_rests c cause p h enough =
     wholly (moved (CloseStart c cause) p)
     (record {
       placed = placed_away c closing (λ _. refl) (λ _. refl) p.idle p.conns h.placed;
-      most = kept_many p (length (changed c closing p.conns)) (let same = length-changed c closing p.conns in omega (arith, same)) h.most;
+      most = kept_many p (length (conn_changed c closing p.conns)) (let same = length-changed c closing p.conns in omega (arith, same)) h.most;
       served = or_kept (is_empty p.idle) (list_all (λ r. r.last) p.waiting) (is_empty (without c p.idle)) (list_all (λ r. r.last) p.waiting) h.served (empty-without c p.idle) (λ k. k);
       few = let less = length-without c p.idle in let few = true_le (length p.idle) p.limits.max_idle h.few in le_true (length (without c p.idle)) p.limits.max_idle (omega (arith, less, few));
       young = young_away p.limits p.moment c closing p.conns (λ _. refl) (λ _. refl) (young_at p h);

@@ -8,7 +8,7 @@ use Rattle.dsql_tenure_journal.specs.declared.entry.Owner.{Owner}
 use Rattle.dsql_time.specs.declared.Limits.{Limits}
 use Rattle.dsql_pool.specs.declared.conn.Conn.{Conn}
 use Rattle.dsql_pool.specs.Places.{conn_of, is_idle}
-use Rattle.dsql_pool.specs.Changes.{changed, gone, opening}
+use Rattle.dsql_pool.specs.Changes.{conn_changed, gone, opening}
 use Rattle.dsql_pool.specs.Rest.{times}
 use Rattle.dsql_pool.specs.Decisions.{cause_at}
 use Rattle.dsql_pool.proofs.Found.{KeepsNumber, found_changed, found_beside}
@@ -64,17 +64,17 @@ mapped f None x e = cc
 mapped f (Some y) x e = let same : x ≡ f y = cc in (y, refl, same)
 
 -- The idle connections are within their time after connection c has changed and isn't idle.
-pub young_away : (limits : Limits) (moment c : ℕ) (f : Conn → Conn) (conns : List Conn) → KeepsNumber f → ((x : Conn) → is_idle (Some (f x).place) ≡ false) → Young limits moment conns → Young limits moment (changed c f conns)
+pub young_away : (limits : Limits) (moment c : ℕ) (f : Conn → Conn) (conns : List Conn) → KeepsNumber f → ((x : Conn) → is_idle (Some (f x).place) ≡ false) → Young limits moment conns → Young limits moment (conn_changed c f conns)
 young_away limits moment c f conns keeps never =
-    young_off limits moment c conns (changed c f conns) (λ d apart. found_beside c d f keeps conns apart)
+    young_off limits moment c conns (conn_changed c f conns) (λ d apart. found_beside c d f keeps conns apart)
     (λ x found is.
     let y = mapped f (conn_of c conns) x (sym (found_changed c f keeps conns) ∙ found) in
     let not : true ≡ false = sym is ∙ (ap (λ (z : Conn). is_idle (Some z.place)) y.2 ∙ never y.0) in
     cc)
 
-pub young_back : (limits : Limits) (moment c : ℕ) (f : Conn → Conn) (conns : List Conn) → KeepsNumber f → ((y : Conn) → conn_of c conns ≡ Some y → IsYoung limits moment (Some (f y))) → Young limits moment conns → Young limits moment (changed c f conns)
+pub young_back : (limits : Limits) (moment c : ℕ) (f : Conn → Conn) (conns : List Conn) → KeepsNumber f → ((y : Conn) → conn_of c conns ≡ Some y → IsYoung limits moment (Some (f y))) → Young limits moment conns → Young limits moment (conn_changed c f conns)
 young_back limits moment c f conns keeps young =
-    young_off limits moment c conns (changed c f conns) (λ d apart. found_beside c d f keeps conns apart)
+    young_off limits moment c conns (conn_changed c f conns) (λ d apart. found_beside c d f keeps conns apart)
     (λ x found is.
     let y = mapped f (conn_of c conns) x (sym (found_changed c f keeps conns) ∙ found) in
     subst (λ (z : Conn). IsYoung limits moment (Some z)) (sym y.2) (young y.0 y.1))

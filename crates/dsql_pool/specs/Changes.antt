@@ -41,9 +41,10 @@ abbrev pub unwanted : Conn → Conn
 unwanted conn = cond (is_opening (Some conn.place)) (record conn { place = Opening None }) conn
 
 -- Returns the connections with connection c changed, if it is open.
-abbrev pub changed : ℕ → (Conn → Conn) → List Conn → List Conn
-changed c change [] = []
-changed c change (conn ∷ conns) = cond (conn.number == c) (change conn ∷ conns) (conn ∷ changed c change conns)
+abbrev pub conn_changed : ℕ → (Conn → Conn) → List Conn → List Conn
+conn_changed c change [] = []
+conn_changed c change (conn ∷ conns) =
+    cond (conn.number == c) (change conn ∷ conns) (conn ∷ conn_changed c change conns)
 
 -- Returns the connections without connection c.
 abbrev pub gone : ℕ → List Conn → List Conn

@@ -8,7 +8,7 @@ use Rattle.dsql_wait.specs.Requests.{request_of, without_call}
 use Rattle.dsql_pool.specs.declared.moves.Move.{Move}
 use Rattle.dsql_pool.specs.declared.moves.Move.TheVariants.{OpenStart, Lend, Back, CloseStart, Gone, Fell}
 use Rattle.dsql_pool.specs.Counted.{closed_for, one_waits, with_wait, wait_over}
-use Rattle.dsql_pool.specs.Changes.{changed, opening, lent, back, closing, gone, unwanted_by, unwanted}
+use Rattle.dsql_pool.specs.Changes.{conn_changed, opening, lent, back, closing, gone, unwanted_by, unwanted}
 use Rattle.dsql_pool.specs.Pooled.{Pooled, next_number, without}
 
 -- Returns the pool after the wait of a call has ended, if it waited.
@@ -24,16 +24,20 @@ begun wanted p =
 -- Returns the pool after connection c was lent, whoever waits.
 abbrev pub lent_out : ℕ → ℕ → Owner → Pooled → Pooled
 lent_out c tenure owner p =
-    record p { conns = changed c (lent tenure owner p.moment) p.conns; idle = without c p.idle; drawn = p.drawn + 1 }
+    record p {
+      conns = conn_changed c (lent tenure owner p.moment) p.conns;
+      idle = without c p.idle;
+      drawn = p.drawn + 1;
+    }
 
 -- Returns the pool after a move. An opening that the pool begins by itself is for no request of its own; one
 -- for a request is `begun` for its owner.
 abbrev pub moved : Move → Pooled → Pooled
 moved (OpenStart c n) p = begun None p
 moved (Lend c tenure owner n) p = left n (lent_out c tenure owner p)
-moved (Back c) p = record p { conns = changed c (back p.moment) p.conns; idle = p.idle ++ c ∷ [] }
+moved (Back c) p = record p { conns = conn_changed c (back p.moment) p.conns; idle = p.idle ++ c ∷ [] }
 moved (CloseStart c cause) p =
-    record p { conns = changed c closing p.conns; idle = without c p.idle; counts = closed_for cause p.counts }
+    record p { conns = conn_changed c closing p.conns; idle = without c p.idle; counts = closed_for cause p.counts }
 moved (Gone c) p = record p { conns = gone c p.conns }
 moved (Fell c n) p = left n (record p { conns = gone c p.conns })
 

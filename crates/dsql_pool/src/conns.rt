@@ -2,7 +2,7 @@ ghost use Rattle.std.specs.Prelude.{◌≡◌, ◌+◌, ◌<◌, ◌≤◌, [], 
 ghost use Rattle.std.specs.List.{list_any};
 ghost use Rattle.dsql_pool.specs.Places.{conn_of, is_for, is_free};
 ghost use Rattle.dsql_pool.specs.Pooled.{most_drawn_within_a_call};
-ghost use Rattle.dsql_pool.specs.Changes.{changed, opening, lent, back, closing, gone, unwanted, unwanted_by};
+ghost use Rattle.dsql_pool.specs.Changes.{conn_changed, opening, lent, back, closing, gone, unwanted, unwanted_by};
 
 use crate::conn::Conn;
 use dsql_tenure_journal::Owner;
@@ -136,7 +136,7 @@ impl Conns {
     /// Lends a connection, if it is open.
     pub fn lend(&mut self, conn: u32, tenure: u32, owner: Owner, moment: u64)
         requires { self.old.drawn < most_drawn_within_a_call }
-        ensures conns { self.new.conns ≡ changed conn (lent tenure owner moment) self.old.conns }
+        ensures conns { self.new.conns ≡ conn_changed conn (lent tenure owner moment) self.old.conns }
         ensures opened { self.new.opened ≡ self.old.opened }
         ensures drawn { self.new.drawn ≡ self.old.drawn + 1 }
         ensures capacity { self.new.capacity ≡ self.old.capacity }
@@ -150,7 +150,7 @@ impl Conns {
 
     /// Takes a connection back, if it is open.
     pub fn back(&mut self, conn: u32, moment: u64)
-        ensures conns { self.new.conns ≡ changed conn (back moment) self.old.conns }
+        ensures conns { self.new.conns ≡ conn_changed conn (back moment) self.old.conns }
         ensures opened { self.new.opened ≡ self.old.opened }
         ensures drawn { self.new.drawn ≡ self.old.drawn }
         ensures capacity { self.new.capacity ≡ self.old.capacity }
@@ -162,7 +162,7 @@ impl Conns {
 
     /// Begins to close a connection, if it is open.
     pub fn close(&mut self, conn: u32)
-        ensures conns { self.new.conns ≡ changed conn closing self.old.conns }
+        ensures conns { self.new.conns ≡ conn_changed conn closing self.old.conns }
         ensures opened { self.new.opened ≡ self.old.opened }
         ensures drawn { self.new.drawn ≡ self.old.drawn }
         ensures capacity { self.new.capacity ≡ self.old.capacity }
@@ -205,7 +205,7 @@ impl Conns {
 
 // Puts the connection in the place of the one that has its number.
 fn put(rows: &mut Vec<Conn>, conn: Conn)
-    ensures rows { rows.new.items ≡ changed conn.number (λ _. conn) rows.old.items }
+    ensures rows { rows.new.items ≡ conn_changed conn.number (λ _. conn) rows.old.items }
     ensures capacity { vec_capacity rows.new ≡ vec_capacity rows.old }
 {
     match place_of(rows, conn.number) {

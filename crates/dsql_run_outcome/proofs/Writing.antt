@@ -11,7 +11,7 @@ use Rattle.dsql_script_report.specs.Lines.{text_of}
 use Rattle.dsql_script_show.specs.Report.{with_text, ShowsFront, StopsBetween, oldest, Shows}
 use Rattle.dsql_script_show.proofs.Texts.{text_on}
 use Rattle.dsql_script_source.specs.declared.stop.Stop.{Stop}
-use Rattle.dsql_script_source.specs.declared.stop.Stop.TheVariants.{Write, Memory, Full}
+use Rattle.dsql_script_source.specs.declared.stop.Stop.TheVariants.{Write, Memory}
 use Rattle.dsql_run_outcome.specs.Runs.{IsPlayStop, IsShowStop, Wrote, stop_of_halt}
 
 pub no_text : (w : Option (List ℕ)) → with_text w [] ≡ w

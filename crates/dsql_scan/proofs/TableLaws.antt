@@ -3,7 +3,7 @@ use Rattle.std.proofs.Common.{◌≡◌, ◌+◌, ℕ, ℤ, pos, negsuc, suc, ze
 use Rattle.std.specs.Str.{is_utf8}
 use Rattle.std.proofs.lemmas.Bool.{cond-true, cond-false, eq-eqb, ne_eqb}
 use Rattle.dsql_value.specs.declared.value.Value.{Value}
-use Rattle.dsql_value.specs.declared.value.Value.TheVariants.{Nil, Int, Bytes, Text, Time}
+use Rattle.dsql_value.specs.declared.value.Value.TheVariants.{Nil, Int, Bytes, Text}
 use Rattle.dsql_scan.specs.declared.cell.Cell.{Cell}
 use Rattle.dsql_scan.specs.declared.cell.Cell.TheVariants as cells
 use Rattle.dsql_scan.specs.declared.dest.Dest.{Dest}

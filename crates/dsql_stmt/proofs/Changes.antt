@@ -1,5 +1,5 @@
 -- Proves that an addition or a close concerns the statement with that number, and no other.
-use Rattle.std.proofs.Common.{◌≡◌, ℕ, false, eqb, List, Option, Some, sym, ap, ◌∙◌}
+use Rattle.std.proofs.Common.{◌≡◌, ℕ, false, eqb, List, Some, sym, ap, ◌∙◌}
 use Rattle.std.specs.Map.{set_value}
 use Rattle.std.proofs.lemmas.Bool.{cond-false}
 use Rattle.std.proofs.lemmas.Map.Steps.{set_value_same}

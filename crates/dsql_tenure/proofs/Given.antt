@@ -12,7 +12,7 @@ use Rattle.dsql_tenure_journal.specs.declared.entry.Owner.{Owner}
 use Rattle.dsql_tenure_journal.specs.declared.entry.Owner.TheVariants.{House}
 use Rattle.dsql_tenure_journal.specs.Kinds.{is_number, same_owner}
 use Rattle.dsql_driver.specs.Kinds.{given_handle, given_cursor}
-use Rattle.dsql_tenure_journal.specs.Readers.{LiveHandle, LiveCursor, handles, handles_after, cursors, cursors_after, changed, after_next}
+use Rattle.dsql_tenure_journal.specs.Readers.{LiveHandle, LiveCursor, handles, handles_after, cursors, cursors_after, cursor_changed, after_next}
 use Rattle.dsql_tenure_journal.proofs.Conjunctions.{parts2, join2}
 use Rattle.dsql_tenure.proofs.Lists.{list_all-so}
 
@@ -48,11 +48,11 @@ list_all-kept f g (x ∷ xs) h = go (g x) (parts2 (f x) (list_all f xs) h) (list
     go false p more = more
 
 pub list_all-changed : (f : LiveCursor → Bool) (rows : ℕ) (change : LiveCursor → LiveCursor) → ((c : LiveCursor) → f c ≡ true → f (change c) ≡ true)
-    → (cs : List LiveCursor) → list_all f cs ≡ true → list_all f (changed rows change cs) ≡ true
+    → (cs : List LiveCursor) → list_all f cs ≡ true → list_all f (cursor_changed rows change cs) ≡ true
 list_all-changed f rows change keep [] h = refl
 list_all-changed f rows change keep (c ∷ cs) h =
     let p = parts2 (f c) (list_all f cs) h in
-    join2 (f (cond (c.number == rows) (change c) c)) (list_all f (changed rows change cs))
+    join2 (f (cond (c.number == rows) (change c) c)) (list_all f (cursor_changed rows change cs))
     (pick (c.number == rows) p.0 (keep c p.0)) (list_all-changed f rows change keep cs p.1)
   where
     pick : (b : Bool) → f c ≡ true → f (change c) ≡ true → f (cond b (change c) c) ≡ true

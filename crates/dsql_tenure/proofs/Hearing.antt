@@ -6,8 +6,8 @@ use Rattle.dsql_driver.specs.declared.call.DriverCall.TheVariants.{Prepare, Clos
 use Rattle.dsql_driver.specs.declared.answer.DriverAnswer.{DriverAnswer}
 use Rattle.dsql_driver.specs.declared.answer.DriverAnswer.TheVariants.{Prepared, Cursor}
 use Rattle.dsql_tenure_journal.specs.declared.entry.Entry.{Entry}
-use Rattle.dsql_driver.specs.Kinds.{is_bad, is_over}
-use Rattle.dsql_tenure_journal.specs.Readers.{LiveHandle, LiveCursor, has, handles_after, cursors_after, changed, after_next, bad_tenure, went_bad, begun, begins, of_tenure}
+use Rattle.dsql_driver.specs.Kinds.{is_bad, ends_cursor}
+use Rattle.dsql_tenure_journal.specs.Readers.{LiveHandle, LiveCursor, has, handles_after, cursors_after, cursor_changed, after_next, bad_tenure, went_bad, begun, begins, of_tenure}
 use Rattle.dsql_tenure_journal.specs.Journal.{may_follow, IsJournalPrefix}
 use Rattle.dsql_tenure_journal.specs.Facts.{MayFollow}
 use Rattle.dsql_tenure_journal.proofs.Sentences.{MayFollow-of}
@@ -30,9 +30,9 @@ handles_by e _ _ live = refl
 pub kept_handles : (e : Entry) (live : List LiveHandle) → handles_with (prepared_by e.call e.answer) (closed_by e.call) e (map kept_handle live) ≡ map kept_handle (handles_after e e.call e.answer live)
 kept_handles e live = handles_by e e.call e.answer live
 
-over_is : (rows : ℕ) (a : DriverAnswer) (cs : List LiveCursor) → is_over a ≡ true → map (over_if rows) (map kept_cursor cs) ≡ map kept_cursor (changed rows (after_next a) cs)
+over_is : (rows : ℕ) (a : DriverAnswer) (cs : List LiveCursor) → ends_cursor a ≡ true → map (over_if rows) (map kept_cursor cs) ≡ map kept_cursor (cursor_changed rows (after_next a) cs)
 over_is rows a [] over = refl
-over_is rows a (c ∷ cs) over = rw (over_is rows a cs over) (ap (λ x. x ∷ map kept_cursor (changed rows (after_next a) cs)) (go (c.number == rows) refl))
+over_is rows a (c ∷ cs) over = rw (over_is rows a cs over) (ap (λ x. x ∷ map kept_cursor (cursor_changed rows (after_next a) cs)) (go (c.number == rows) refl))
   where
     last : (b : Bool) → (b || true) ≡ true
     last true = refl
@@ -42,7 +42,7 @@ over_is rows a (c ∷ cs) over = rw (over_is rows a cs over) (ap (λ x. x ∷ ma
     go true is = rw (over, last c.over) refl
     go false is = refl
 
-same_is : (rows : ℕ) (a : DriverAnswer) (cs : List LiveCursor) → is_over a ≡ false → map kept_cursor cs ≡ map kept_cursor (changed rows (after_next a) cs)
+same_is : (rows : ℕ) (a : DriverAnswer) (cs : List LiveCursor) → ends_cursor a ≡ false → map kept_cursor cs ≡ map kept_cursor (cursor_changed rows (after_next a) cs)
 same_is rows a [] over = refl
 same_is rows a (c ∷ cs) over = rw (← same_is rows a cs over) (ap (λ x. x ∷ map kept_cursor cs) (go (c.number == rows)))
   where
@@ -58,9 +58,9 @@ cursors_by : (e : Entry) (q : DriverCall) (a : DriverAnswer) (live : List LiveCu
     → cursors_with (opened_by q a) (freed_by q) (finished_by q a) e (map kept_cursor live) ≡ map kept_cursor (cursors_after e q a live)
 cursors_by e (Query input params) (Cursor rows columns) live is = rw is refl
 cursors_by e (Query input params) _ live is = refl
-cursors_by e (Next rows) a live is = go (is_over a) refl
+cursors_by e (Next rows) a live is = go (ends_cursor a) refl
   where
-    go : (b : Bool) → is_over a ≡ b → cursors_with None None (cond b (Some rows) None) e (map kept_cursor live) ≡ map kept_cursor (changed rows (after_next a) live)
+    go : (b : Bool) → ends_cursor a ≡ b → cursors_with None None (cond b (Some rows) None) e (map kept_cursor live) ≡ map kept_cursor (cursor_changed rows (after_next a) live)
     go true over = over_is rows a live over
     go false over = same_is rows a live over
 cursors_by e (CloseRows rows) a live is = filter-map (λ x. not (x.number == rows)) kept_cursor live

@@ -14,7 +14,7 @@ use Rattle.dsql_tenure_journal.specs.declared.entry.Owner.{Owner}
 use Rattle.dsql_tenure_journal.specs.declared.entry.Owner.TheVariants.{Call}
 use Rattle.dsql_tenure_journal.specs.Kinds.{◌⇒◌, is_number, is_call}
 use Rattle.dsql_driver.specs.Kinds.{is_reset, is_valid, is_prepare, runs_text, runs_handle, is_next, given_cursor}
-use Rattle.dsql_tenure_journal.specs.Readers.{LiveCursor, of_tenure, cursors, cursors_after, changed, after_next}
+use Rattle.dsql_tenure_journal.specs.Readers.{LiveCursor, of_tenure, cursors, cursors_after, cursor_changed, after_next}
 use Rattle.dsql_tenure_journal.specs.Tenure.{is_body, place}
 use Rattle.dsql_tenure_journal.specs.Journal.{may_follow, is_journal_prefix, IsJournalPrefix}
 use Rattle.dsql_tenure_journal.specs.Facts.{KeepsBody, KeepsCallBody}
@@ -169,11 +169,11 @@ tenure_same : (b : Bool) (a : DriverAnswer) (c : LiveCursor) → (cond b (after_
 tenure_same true a c = refl
 tenure_same false a c = refl
 
-any-changed : (t rows : ℕ) (a : DriverAnswer) (cs : List LiveCursor) → list_any (λ c. c.tenure == t) (changed rows (after_next a) cs) ≡ list_any (λ c. c.tenure == t) cs
+any-changed : (t rows : ℕ) (a : DriverAnswer) (cs : List LiveCursor) → list_any (λ c. c.tenure == t) (cursor_changed rows (after_next a) cs) ≡ list_any (λ c. c.tenure == t) cs
 any-changed t rows a [] = refl
 any-changed t rows a (c ∷ cs) = rw (tenure_same (c.number == rows) a c, any-changed t rows a cs) refl
 
-one-changed : (t rows : ℕ) (a : DriverAnswer) (cs : List LiveCursor) → one_of t (changed rows (after_next a) cs) ≡ one_of t cs
+one-changed : (t rows : ℕ) (a : DriverAnswer) (cs : List LiveCursor) → one_of t (cursor_changed rows (after_next a) cs) ≡ one_of t cs
 one-changed t rows a [] = refl
 one-changed t rows a (c ∷ cs) = rw (tenure_same (c.number == rows) a c, any-changed t rows a cs, one-changed t rows a cs) refl
 

@@ -6,7 +6,7 @@ use Rattle.dsql_driver.specs.declared.call.DriverCall.TheVariants.{Prepare, Clos
 use Rattle.dsql_driver.specs.declared.answer.DriverAnswer.{DriverAnswer}
 use Rattle.dsql_driver.specs.declared.answer.DriverAnswer.TheVariants.{Prepared, Cursor}
 use Rattle.dsql_tenure_journal.specs.declared.entry.Entry.{Entry}
-use Rattle.dsql_driver.specs.Kinds.{is_over}
+use Rattle.dsql_driver.specs.Kinds.{ends_cursor}
 use Rattle.dsql_tenure_asked.specs.declared.live.Handle.{Handle}
 use Rattle.dsql_tenure_asked.specs.declared.live.Cursor as kept
 
@@ -37,7 +37,7 @@ freed_by _ = None
 
 -- Returns the cursor that has no further row.
 abbrev pub finished_by : DriverCall → DriverAnswer → Option ℕ
-finished_by (Next rows) answer = if is_over answer then Some rows else None
+finished_by (Next rows) answer = if ends_cursor answer then Some rows else None
 finished_by _ _ = None
 
 -- Returns the handles with one that is given, and without one that is closed.

@@ -5,8 +5,8 @@ use Rattle.dsql_tenure_journal.specs.HandlesAndCursors.{has_live_handle, has_liv
 use Rattle.dsql_tenure_journal.specs.WholeJournal.{follows_no_refusal, follows_no_shut, follows_whole_tenure, connects_first, starts_with_tenure_one, has_rising_tenure, tidies_nothing_bad, stays_in_bad_tenure, shuts_after_invalid}
 
 -- Is true if something is left to be heard.
-abbrev pub goes_on : List Entry → Bool
-goes_on before = follows_no_refusal before && follows_no_shut before
+abbrev pub hears_more : List Entry → Bool
+hears_more before = follows_no_refusal before && follows_no_shut before
 
 -- Is true if Connect is the first entry, in tenure 1, and only the first.
 abbrev pub begins_well : List Entry → Entry → Bool
@@ -17,7 +17,7 @@ abbrev pub rises : List Entry → Entry → Bool
 rises before entry = has_rising_tenure before entry && follows_whole_tenure before entry
 
 abbrev pub keeps_order : List Entry → Entry → Bool
-keeps_order before entry = goes_on before && begins_well before entry && rises before entry
+keeps_order before entry = hears_more before && begins_well before entry && rises before entry
 
 -- Is true if the entry keeps the rules that a Bad or Invalid answer leaves.
 abbrev pub keeps_bad : List Entry → Entry → Bool

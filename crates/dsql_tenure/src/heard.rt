@@ -63,7 +63,7 @@ fn finished_by(entry: &Entry) -> Option<u32>
     ensures { result ≡ heard.finished_by entry.now.call entry.now.answer }
 {
     match &entry.call {
-        DriverCall::Next(rows) if entry.answer.is_over() => Some(*rows),
+        DriverCall::Next(rows) if entry.answer.ends_cursor() => Some(*rows),
         _ => None,
     }
 }

@@ -17,7 +17,7 @@ use dsql_tenure_asked::{Asked, Left, no_cursor_of_tenure, serves_cursor, serves_
 #[tactic(auto, unfolding(crate::specs::Tables::Stands))]
 impl Tables {
     ghost use Rattle.dsql_tenure.specs.Tables.{past, Stands};
-    ghost use Rattle.dsql_tenure.specs.Parts.{keeps_order, goes_on, begins_well, rises, keeps_bad};
+    ghost use Rattle.dsql_tenure.specs.Parts.{keeps_order, hears_more, begins_well, rises, keeps_bad};
 
     /// Returns whether some entry was answered Bad.
     pub fn went_bad(&self) -> bool
@@ -63,13 +63,13 @@ impl Tables {
         requires { Stands self.now }
         ensures { result ≡ keeps_order (past self.now) (entry_like asked.now) }
     {
-        self.goes_on() && self.begins_well(asked) && self.rises(asked)
+        self.hears_more() && self.begins_well(asked) && self.rises(asked)
     }
 
     /// Returns whether something is left to be heard.
-    fn goes_on(&self) -> bool
+    fn hears_more(&self) -> bool
         requires { Stands self.now }
-        ensures { result ≡ goes_on (past self.now) }
+        ensures { result ≡ hears_more (past self.now) }
     {
         !self.refused && !self.shut
     }

@@ -11,7 +11,7 @@ use Rattle.dsql_driver.specs.declared.answer.DriverAnswer.{DriverAnswer}
 use Rattle.dsql_driver.specs.declared.answer.DriverAnswer.TheVariants.{Prepared, Cursor}
 use Rattle.dsql_tenure_journal.specs.Kinds.{if_any}
 use Rattle.dsql_driver.specs.Kinds.{given_handle, given_cursor}
-use Rattle.dsql_tenure_journal.specs.Readers.{is_empty, LiveHandle, LiveCursor, handles, handles_after, handles_named, cursors, cursors_after, cursors_named, changed, after_next}
+use Rattle.dsql_tenure_journal.specs.Readers.{is_empty, LiveHandle, LiveCursor, handles, handles_after, handles_named, cursors, cursors_after, cursors_named, cursor_changed, after_next}
 use Rattle.dsql_tenure_journal.specs.Journal.{may_follow, is_journal_prefix, IsJournalPrefix}
 use Rattle.dsql_tenure_journal.specs.Facts.{MayFollow}
 use Rattle.dsql_tenure_journal.proofs.Conjunctions.{parts2}
@@ -81,10 +81,10 @@ picked-number true change c same = same
 picked-number false change c same = refl
 
 count-changed : (n rows : ℕ) (change : LiveCursor → LiveCursor) → ((c : LiveCursor) → (change c).number ≡ c.number) → (cs : List LiveCursor)
-    → count (λ c. c.number == n) (changed rows change cs) ≡ count (λ c. c.number == n) cs
+    → count (λ c. c.number == n) (cursor_changed rows change cs) ≡ count (λ c. c.number == n) cs
 count-changed n rows change same [] = refl
 count-changed n rows change same (c ∷ cs) =
-    same_head n (cond (c.number == rows) (change c) c) c (changed rows change cs) cs (picked-number (c.number == rows) change c (same c)) (count-changed n rows change same cs)
+    same_head n (cond (c.number == rows) (change c) c) c (cursor_changed rows change cs) cs (picked-number (c.number == rows) change c (same c)) (count-changed n rows change same cs)
 
 cursors_after-one : (n : ℕ) (e : Entry) (q : DriverCall) (a : DriverAnswer) (live : List LiveCursor) → count (λ c. c.number == n) live ≤ 1
     → if_any (given_cursor a) (λ r. is_empty (filter (λ x. x.number == r) live)) ≡ true → count (λ c. c.number == n) (cursors_after e q a live) ≤ 1

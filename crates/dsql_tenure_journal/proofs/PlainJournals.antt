@@ -43,12 +43,12 @@ of_tenure-with t e J same = grind (arith, nat_tests, same)
 pub Good-with : (e : Entry) (J : List Entry) → Good J → is_bad e.answer ≡ false → is_invalid e.answer ≡ false → Good (e ∷ J)
 Good-with e J good not_bad not_invalid = record { not_bad = grind (arith, good.not_bad, not_bad); not_invalid = grind (arith, good.not_invalid, not_invalid) }
 
-goes_on : (c : ℕ) (J : List Entry) → list_all (λ x. x.conn == c) J ≡ true → (c == c) && list_all (λ x. x.conn == c) J ≡ true
-goes_on c J one = grind (arith, nat_tests, one)
+pub still_one : (c : ℕ) (J : List Entry) → list_all (λ x. x.conn == c) J ≡ true → (c == c) && list_all (λ x. x.conn == c) J ≡ true
+still_one c J one = grind (arith, nat_tests, one)
 
 -- A connection that was opened is Plain and Good.
 pub Plain-connect : (c : ℕ) → Plain c (connect_entry c Done ∷ [])
-Plain-connect c = record { one = goes_on c [] refl; opened = refl; not_refused = refl; not_shut = refl; call_handles = refl; no_cursors = refl; none_begun = refl }
+Plain-connect c = record { one = still_one c [] refl; opened = refl; not_refused = refl; not_shut = refl; call_handles = refl; no_cursors = refl; none_begun = refl }
 
 pub Good-connect : (c : ℕ) → Good (connect_entry c Done ∷ [])
 Good-connect c = record { not_bad = refl; not_invalid = refl }

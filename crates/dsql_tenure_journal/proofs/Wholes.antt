@@ -10,7 +10,7 @@ use Rattle.dsql_driver.specs.declared.answer.DriverAnswer.{DriverAnswer}
 use Rattle.dsql_driver.specs.declared.answer.DriverAnswer.TheVariants.{Prepared, Cursor}
 use Rattle.dsql_tenure_journal.specs.Kinds.{◌⇒◌, is_call}
 use Rattle.dsql_driver.specs.Kinds.{is_bad, is_ending}
-use Rattle.dsql_tenure_journal.specs.Readers.{is_empty, has, of_tenure, last_tenure, LiveHandle, LiveCursor, handles, handles_after, cursors, cursors_after, changed, after_next, begun, ended, went_bad}
+use Rattle.dsql_tenure_journal.specs.Readers.{is_empty, has, of_tenure, last_tenure, LiveHandle, LiveCursor, handles, handles_after, cursors, cursors_after, cursor_changed, after_next, begun, ended, went_bad}
 use Rattle.dsql_tenure_journal.specs.Tenure.{has_ended_transactions, has_closed_cursors, has_closed_handles, is_whole_tenure}
 use Rattle.dsql_tenure_journal.specs.Journal.{may_follow, is_journal_prefix, IsJournalPrefix}
 use Rattle.dsql_tenure_journal.specs.Facts.{MayFollow}
@@ -31,11 +31,11 @@ pick f change true c h k = k
 pick f change false c h k = h
 
 all-changed : (f : LiveCursor → Bool) (rows : ℕ) (change : LiveCursor → LiveCursor) → ((c : LiveCursor) → f c ≡ true → f (change c) ≡ true)
-    → (cs : List LiveCursor) → list_all f cs ≡ true → list_all f (changed rows change cs) ≡ true
+    → (cs : List LiveCursor) → list_all f cs ≡ true → list_all f (cursor_changed rows change cs) ≡ true
 all-changed f rows change keep [] h = refl
 all-changed f rows change keep (c ∷ cs) h =
     let p = parts2 (f c) (list_all f cs) h in
-    join2 (f (cond (c.number == rows) (change c) c)) (list_all f (changed rows change cs))
+    join2 (f (cond (c.number == rows) (change c) c)) (list_all f (cursor_changed rows change cs))
     (pick f change (c.number == rows) c p.0 (keep c p.0)) (all-changed f rows change keep cs p.1)
 
 abbrev elsewhere : ℕ → LiveCursor → Bool

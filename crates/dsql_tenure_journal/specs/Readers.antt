@@ -9,7 +9,7 @@ use Rattle.dsql_driver.specs.declared.answer.DriverAnswer.TheVariants.{Prepared,
 use Rattle.dsql_driver.specs.Fits.{is_done, is_failure, is_invalid}
 use Rattle.dsql_tenure_journal.specs.declared.entry.Entry.{Entry}
 use Rattle.dsql_tenure_journal.specs.declared.entry.Owner.{Owner}
-use Rattle.dsql_driver.specs.Kinds.{is_connect, is_shut, is_begin, is_ending, is_bad, is_over}
+use Rattle.dsql_driver.specs.Kinds.{is_connect, is_shut, is_begin, is_ending, is_bad, ends_cursor}
 
 abbrev pub is_empty : {X : Type 0} → List X → Bool
 is_empty [] = true
@@ -68,18 +68,18 @@ handles (e ∷ before) = handles_after e e.call e.answer (handles before)
 
 -- Returns the cursor after a Next of it.
 abbrev pub after_next : DriverAnswer → LiveCursor → LiveCursor
-after_next answer c = record c { over = c.over || is_over answer }
+after_next answer c = record c { over = c.over || ends_cursor answer }
 
 -- Returns the cursors with those of this number changed.
-abbrev pub changed : ℕ → (LiveCursor → LiveCursor) → List LiveCursor → List LiveCursor
-changed rows change [] = []
-changed rows change (c ∷ cs) = (if c.number == rows then change c else c) ∷ changed rows change cs
+abbrev pub cursor_changed : ℕ → (LiveCursor → LiveCursor) → List LiveCursor → List LiveCursor
+cursor_changed rows change [] = []
+cursor_changed rows change (c ∷ cs) = (if c.number == rows then change c else c) ∷ cursor_changed rows change cs
 
 -- Returns the live cursors after an entry.
 abbrev pub cursors_after : Entry → DriverCall → DriverAnswer → List LiveCursor → List LiveCursor
 cursors_after e (Query input params) (Cursor rows columns) live =
     record { number = rows; tenure = e.tenure; tx = e.tx; columns = length columns; over = false } ∷ live
-cursors_after e (Next rows) answer live = changed rows (after_next answer) live
+cursors_after e (Next rows) answer live = cursor_changed rows (after_next answer) live
 cursors_after e (CloseRows rows) answer live = filter (λ c. not (c.number == rows)) live
 cursors_after e _ _ live = live
 

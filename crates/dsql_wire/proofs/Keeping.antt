@@ -15,7 +15,7 @@ use Rattle.dsql_driver.specs.Wires as wires
 use Rattle.dsql_driver.specs.Wires.{WireTold, has_number, with_call, told_after, KeepsHandles, KeepsCursors}
 use Rattle.dsql_tenure_journal.specs.declared.entry.Entry.{Entry}
 use Rattle.dsql_driver.specs.Kinds.{is_close_stmt, is_close_rows}
-use Rattle.dsql_tenure_journal.specs.Readers.{LiveHandle, LiveCursor, handles, cursors, handles_after, cursors_after, changed, after_next}
+use Rattle.dsql_tenure_journal.specs.Readers.{LiveHandle, LiveCursor, handles, cursors, handles_after, cursors_after, cursor_changed, after_next}
 use Rattle.dsql_tenure_journal.proofs.Conjunctions.{parts2, join2}
 use Rattle.dsql_tenure.proofs.Lists.{list_all-filter, list_all-so}
 use Rattle.dsql_tenure.specs.Judged.{answered}
@@ -103,11 +103,11 @@ rows_closed m before after live left all =
     (λ c on. unless (not (c.number == m)) (has_cursor after c) (λ other. left c other on)) live all
 
 -- A Next changes no cursor's number and no cursor's width.
-rows_over : (m : ℕ) (answer : DriverAnswer) (on : List wires.LiveCursor) (live : List LiveCursor) → has_cursors on (changed m (after_next answer) live) ≡ has_cursors on live
+rows_over : (m : ℕ) (answer : DriverAnswer) (on : List wires.LiveCursor) (live : List LiveCursor) → has_cursors on (cursor_changed m (after_next answer) live) ≡ has_cursors on live
 rows_over m answer on [] = refl
 rows_over m answer on (c ∷ cs) = go (c.number == m) (rows_over m answer on cs)
   where
-    go : (b : Bool) → has_cursors on (changed m (after_next answer) cs) ≡ has_cursors on cs → has_cursors on (cond b (after_next answer c) c ∷ changed m (after_next answer) cs) ≡ has_cursors on (c ∷ cs)
+    go : (b : Bool) → has_cursors on (cursor_changed m (after_next answer) cs) ≡ has_cursors on cs → has_cursors on (cond b (after_next answer c) c ∷ cursor_changed m (after_next answer) cs) ≡ has_cursors on (c ∷ cs)
     go true h = ap (λ b. has_cursor on c && b) h
     go false h = ap (λ b. has_cursor on c && b) h
 

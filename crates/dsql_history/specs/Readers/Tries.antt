@@ -36,16 +36,16 @@ try_number [] = 1
 try_number (newest ∷ earlier) = length (newest ∷ earlier)
 
 -- Is true if the try came to nothing because a connection was bad.
-abbrev pub is_over : Try → Bool
-is_over Served = false
-is_over Lost = true
-is_over (Refused answer) = is_bad answer
+abbrev pub came_to_nothing : Try → Bool
+came_to_nothing Served = false
+came_to_nothing Lost = true
+came_to_nothing (Refused answer) = is_bad answer
 
 -- Is true if the call has another try: its first, or one more after the newest came to nothing. It has at most
 -- `most_tries`.
 abbrev pub has_a_try : List Try → Bool
 has_a_try [] = true
-has_a_try (newest ∷ earlier) = is_over newest && nat_lt (length (newest ∷ earlier)) most_tries
+has_a_try (newest ∷ earlier) = came_to_nothing newest && nat_lt (length (newest ∷ earlier)) most_tries
 
 -- Is true if the next try is the last one.
 abbrev pub asks_last : List Try → Bool

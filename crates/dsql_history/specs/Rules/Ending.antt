@@ -20,14 +20,14 @@ use Rattle.dsql_history.specs.Readers.Works.{works, hands_out_in}
 use Rattle.dsql_history.specs.Readers.Journals.{journal, heard_in}
 use Rattle.dsql_history.specs.Readers.Pool.{place, home}
 use Rattle.dsql_history.specs.Readers.Transactions.{tx_end}
-use Rattle.dsql_history.specs.Rules.Sent.{closing}
+use Rattle.dsql_history.specs.Rules.Sent.{close_due}
 
 -- Returns the first driver call that closes rows of transaction k, if any. These works belong to the calls from
 -- number n on. The first of them that handed out rows in transaction k and has rows to close gives it.
 abbrev pub first_closing : List Event → ℕ → ℕ → List Work → Option DriverCall
 first_closing before k n [] = None
 first_closing before k n (it ∷ later) =
-    or_else (cond (hands_out_in k it) (closing before n) None) (first_closing before k (n + 1) later)
+    or_else (cond (hands_out_in k it) (close_due before n) None) (first_closing before k (n + 1) later)
 
 -- Returns the driver call that ends a transaction with this end.
 abbrev pub ended_by_call : TxEnd → DriverCall

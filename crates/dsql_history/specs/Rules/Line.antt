@@ -11,7 +11,7 @@ use Rattle.dsql_pool.specs.declared.conn.Place.TheVariants.{Lent}
 use Rattle.dsql_pool.specs.declared.moves.Move.TheVariants.{Back, CloseStart}
 use Rattle.dsql_history_work.specs.rows.declared.rows.Rows.{Rows}
 use Rattle.dsql_history_work.specs.rows.OpenRows.{is_live}
-use Rattle.dsql_history_work.specs.Line as plain
+use Rattle.dsql_history_work.specs.Line.{is_due_in_line}
 use Rattle.dsql_history_work.specs.Same.{same_truth}
 use Rattle.dsql_history.specs.Rules.Wishes.{newest_sender}
 use Rattle.dsql_history.specs.declared.event.Event.{Event}
@@ -28,7 +28,7 @@ use Rattle.dsql_history.specs.Readers.Pool.{place}
 use Rattle.dsql_history.specs.Readers.Transactions.{is_begun, goes_on, tx_ender}
 use Rattle.dsql_history.specs.Readers.HandedOut.{rows_by, are_live, ender}
 use Rattle.dsql_history.specs.Readers.Calls.{decided, site, has_begun_to_send}
-use Rattle.dsql_history.specs.Rules.Sent.{line_of, wish, sent_for, closing}
+use Rattle.dsql_history.specs.Rules.Sent.{line_of, wish, sent_for, close_due}
 use Rattle.dsql_history.specs.Rules.Ending.{ending}
 
 -- Is true if call m may send in transaction k. It begins to send while the transaction goes on, unless it was
@@ -57,7 +57,7 @@ abbrev pub tidying : List Event → ℕ → Option DriverCall
 tidying before n =
     cond (is_begun before n)
     (cond (tx_ender before n == 0) (ending before n) None)
-    (cond (ender before n == 0) (closing before n) None)
+    (cond (ender before n == 0) (close_due before n) None)
 
 -- Returns the driver call that call m, or the layer if m is 0, would send next on the connection of call n.
 abbrev pub due_from : List Event → ℕ → ℕ → Option DriverCall
@@ -104,7 +104,7 @@ abbrev pub is_due : Option DriverCall → DriverCall → Bool
 is_due (Some (Begin level read_only)) (Begin other only) = same_level level other && same_truth read_only only
 is_due (Some Commit) Commit = true
 is_due (Some Rollback) Rollback = true
-is_due due call = plain.is_due due call
+is_due due call = is_due_in_line due call
 
 -- Is true if the entry, on a connection in this place, is what its call has to send now, and the call has the turn.
 abbrev pub is_due_at : List Event → Option Place → Entry → Bool

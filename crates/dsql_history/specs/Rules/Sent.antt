@@ -99,5 +99,5 @@ sent_for before k wishes.Nothing = None
 sent_for before k wish = line_of before k wish
 
 -- Returns the driver call that is still to be sent to close the rows that call n handed out.
-abbrev pub closing : List Event → ℕ → Option DriverCall
-closing before n = cond (are_over before n) (line_of before n wishes.Close) None
+abbrev pub close_due : List Event → ℕ → Option DriverCall
+close_due before n = cond (are_over before n) (line_of before n wishes.Close) None

@@ -30,18 +30,18 @@ abbrev pub uses_what_is_lent : List Event → Bool
 uses_what_is_lent before = list_all (λ conn. is_in_use before conn.place) (pool before).conns
 
 -- Is true if each unfinished call except call n stands somewhere.
-abbrev pub goes_on_but : ℕ → List Event → Bool
-goes_on_but n before = list_all (λ m. (m == n) || is_some (stand before m)) (unfinished before)
+abbrev pub calls_stand_but : ℕ → List Event → Bool
+calls_stand_but n before = list_all (λ m. (m == n) || is_some (stand before m)) (unfinished before)
 
 -- Is true if each unfinished call stands somewhere. There is no call 0.
-abbrev pub goes_on : List Event → Bool
-goes_on before = goes_on_but 0 before
+abbrev pub calls_stand : List Event → Bool
+calls_stand before = calls_stand_but 0 before
 
 -- Is true if all is settled except for call n.
 abbrev pub is_settled_but : ℕ → List Event → Bool
-is_settled_but n before = owes_nothing before && (uses_what_is_lent before && goes_on_but n before)
+is_settled_but n before = owes_nothing before && (uses_what_is_lent before && calls_stand_but n before)
 
 pub record Settled (before : List Event) : Type 0 where
   pub nothing_owed : owes_nothing before ≡ true
   pub used : uses_what_is_lent before ≡ true
-  pub somewhere : goes_on before ≡ true
+  pub somewhere : calls_stand before ≡ true

@@ -3,7 +3,7 @@ use Rattle.dsql_engine_desk.specs.Desk.{past}
 use Rattle.dsql_laws_calls.specs.history.Readers.HandedOut.{ender}
 use Rattle.dsql_laws_calls.specs.history.Readers.Transactions.{is_begun, tx_ender}
 use Rattle.dsql_laws_calls.specs.history.Rules.Ending.{ending}
-use Rattle.dsql_laws_calls.specs.history.Rules.Sent.{closing}
+use Rattle.dsql_laws_calls.specs.history.Rules.Sent.{close_due}
 use Rattle.dsql_engine_desk.proofs.desk.Desk.tidying.Goals as goal
 
 pub returns-then-tx_ender-eq0 : goal.returns-then-tx_ender-eq0
@@ -14,7 +14,7 @@ returns-then-tx_ender-eq0 c asked =
     let unended : (tx_ender H n == 0) ≡ true = ap (λ m. m == 0) (sym c.tx_ender.ensures ∙ c.if-tx_ender-eq0.true) in
     c.ending.ensures asked
     ∙ sym
-    (ap (λ b. cond b (cond (tx_ender H n == 0) (ending H n) None) (cond (ender H n == 0) (closing H n) None)) begun
+    (ap (λ b. cond b (cond (tx_ender H n == 0) (ending H n) None) (cond (ender H n == 0) (close_due H n) None)) begun
     ∙ ap (λ b. cond b (ending H n) None) unended)
 
 pub returns-then-ender-eq0 : goal.returns-then-ender-eq0
@@ -23,7 +23,7 @@ returns-then-ender-eq0 c asked =
     let n = c.args.call in
     let begun : is_begun H n ≡ false = sym c.is_begun.ensures ∙ c.if-is_begun.false in
     let unended : (ender H n == 0) ≡ true = ap (λ m. m == 0) (sym c.ender.ensures ∙ c.if-ender-eq0.true) in
-    c.closing.ensures asked
+    c.close_due.ensures asked
     ∙ sym
-    (ap (λ b. cond b (cond (tx_ender H n == 0) (ending H n) None) (cond (ender H n == 0) (closing H n) None)) begun
-    ∙ ap (λ b. cond b (closing H n) None) unended)
+    (ap (λ b. cond b (cond (tx_ender H n == 0) (ending H n) None) (cond (ender H n == 0) (close_due H n) None)) begun
+    ∙ ap (λ b. cond b (close_due H n) None) unended)

@@ -2,7 +2,7 @@
 use Rattle.std.proofs.Common.{◌≤◌, refl, sym, ap, ◌∙◌, subst, arith}
 use Rattle.dsql_pool.specs.declared.conn.Conn.{Conn}
 use Rattle.dsql_pool.specs.Places.{Numbered}
-use Rattle.dsql_pool.specs.Changes.{back, changed}
+use Rattle.dsql_pool.specs.Changes.{back, conn_changed}
 use Rattle.dsql_pool.proofs.Rows.{changed_found, changed_missing, drawn_put}
 use Rattle.dsql_pool.proofs.conns.Conns.back.Goals as goal
 
@@ -17,8 +17,8 @@ pub returns-in-Some-clause-conns : goal.returns-in-Some-clause-conns
 returns-in-Some-clause-conns c =
     let conns = c.args.self.now.conns in
     c.put.ensures.rows
-    ∙ (ap (λ (y : Conn). changed y.number (λ _. y) c.self.inside.rows.items) c.back.ensures
-    ∙ (ap (λ (t : Numbered). changed ((back c.args.moment) c.in-Some.row).number (λ _. (back c.args.moment) c.in-Some.row) t.conns) c.self.view_is
+    ∙ (ap (λ (y : Conn). conn_changed y.number (λ _. y) c.self.inside.rows.items) c.back.ensures
+    ∙ (ap (λ (t : Numbered). conn_changed ((back c.args.moment) c.in-Some.row).number (λ _. (back c.args.moment) c.in-Some.row) t.conns) c.self.view_is
     ∙ changed_found c.args.conn (back c.args.moment) c.in-Some.row conns c.in-Some.ensures.conn refl))
 
 pub returns-in_default-clause-conns : goal.returns-in_default-clause-conns

@@ -4,7 +4,7 @@ use Rattle.dsql_tenure_journal.specs.declared.entry.Owner.{Owner}
 use Rattle.dsql_tenure_journal.specs.Kinds.{is_house}
 use Rattle.dsql_pool.specs.declared.conn.Conn.{Conn}
 use Rattle.dsql_pool.specs.Places.{Numbered, conn_of}
-use Rattle.dsql_pool.specs.Changes.{lent, changed}
+use Rattle.dsql_pool.specs.Changes.{lent, conn_changed}
 use Rattle.dsql_pool.proofs.Rows.{changed_found, changed_missing, found_drawn, drawn_put, drawn_on}
 use Rattle.dsql_pool.proofs.conns.Conns.lend.Goals as goal
 
@@ -30,8 +30,8 @@ pub returns-in-Some-clause-conns : goal.returns-in-Some-clause-conns
 returns-in-Some-clause-conns c =
     let conns = c.args.self.now.conns in
     c.put.ensures.rows
-    ∙ (ap (λ (y : Conn). changed y.number (λ _. y) c.self.inside.rows.items) c.lent.ensures
-    ∙ (ap (λ (t : Numbered). changed ((lent c.args.tenure c.args.owner c.args.moment) c.in-Some.row).number (λ _. (lent c.args.tenure c.args.owner c.args.moment) c.in-Some.row) t.conns) c.self.view_is
+    ∙ (ap (λ (y : Conn). conn_changed y.number (λ _. y) c.self.inside.rows.items) c.lent.ensures
+    ∙ (ap (λ (t : Numbered). conn_changed ((lent c.args.tenure c.args.owner c.args.moment) c.in-Some.row).number (λ _. (lent c.args.tenure c.args.owner c.args.moment) c.in-Some.row) t.conns) c.self.view_is
     ∙ changed_found c.args.conn (lent c.args.tenure c.args.owner c.args.moment) c.in-Some.row conns c.in-Some.ensures.conn refl))
 
 pub returns-in_default-clause-conns : goal.returns-in_default-clause-conns

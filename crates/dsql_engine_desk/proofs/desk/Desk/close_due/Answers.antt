@@ -3,7 +3,7 @@ use Rattle.dsql_laws_calls.specs.course.declared.course.Wish.TheVariants as wish
 use Rattle.dsql_engine_desk.specs.Desk.{past}
 use Rattle.dsql_laws_calls.specs.history.Readers.HandedOut.{are_over}
 use Rattle.dsql_laws_calls.specs.history.Rules.Sent.{line_of}
-use Rattle.dsql_engine_desk.proofs.desk.Desk.closing.Goals as goal
+use Rattle.dsql_engine_desk.proofs.desk.Desk.close_due.Goals as goal
 
 pub returns-then-are_over : goal.returns-then-are_over
 returns-then-are_over c asked =
