@@ -5,7 +5,6 @@ use Rattle.std.specs.Prelude.{Result, Ok, Err}
 use Rattle.dsql_history.specs.driver.Streams.{HasRisen, has_risen}
 use Rattle.dsql_script_show.specs.Report.{with_text}
 use Rattle.dsql_script_generator.specs.Script.{generated}
-use Rattle.dsql_laws_callers.proofs.Histories.{all_apart}
 use Rattle.dsql_script_source.specs.declared.stop.Stop.{Stop}
 use Rattle.dsql_script_source.specs.declared.stop.Stop.TheVariants.{Read}
 use Rattle.dsql_run_outcome.specs.Headline.{Seen, SeenNotes}
@@ -23,7 +22,7 @@ summed_of_ran (Ok done) (Ok all) before after one two is out untold well s = rec
   asked = s.ran.asked;
   lines = s.ran.lines;
   legal = s.ran.legal;
-  apart = all_apart s.ran.history s.ran.legal.lawful;
+  apart = s.ran.apart;
   says = s.ran.plays;
   follows = s.ran.follows refl;
   prefers = s.ran.prefers;

@@ -3,7 +3,6 @@ use Rattle.std.proofs.Common.{◌≡◌, ◌⊎◌, ℕ, Bool, true, List, Optio
 use Rattle.std.specs.Prelude.{Result, Ok, Err}
 use Rattle.dsql_history.specs.driver.Streams.{HasRisen, has_risen}
 use Rattle.dsql_script_forms.specs.declared.fault.LineFault.{LineFault}
-use Rattle.dsql_laws_callers.proofs.Histories.{all_apart}
 use Rattle.dsql_run_outcome.specs.Notes.{note_of, status_of, is_status, failed_status, Tells}
 use Rattle.dsql_script_show.specs.Report.{with_text}
 use Rattle.dsql_run_outcome.specs.Headline.{Seen, SeenNotes, Ran, NotBegun, PlaysAndTells, PlaysWhole, RefusesWords}
@@ -36,7 +35,7 @@ whole_of_ran (Ok done) before after one two is untold r = record {
   asked = r.asked;
   lines = r.lines;
   legal = r.legal;
-  apart = all_apart r.history r.legal.lawful;
+  apart = r.apart;
   says = r.plays;
   follows = r.follows refl;
   prefers = r.prefers;

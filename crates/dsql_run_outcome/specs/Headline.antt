@@ -11,12 +11,12 @@ use Rattle.dsql_history.specs.pool.Pooled.{open_count}
 use Rattle.dsql_history.specs.declared.event.Event.{Event}
 use Rattle.dsql_history.specs.declared.event.Event.TheVariants.{Run}
 use Rattle.dsql_history.specs.Legal.{Legal}
-use Rattle.dsql_laws_callers.specs.Apart.{AreApart}
 use Rattle.dsql_history.specs.Readers.Course.{has_ended}
 use Rattle.dsql_history.specs.Readers.Pool.{pool}
 use Rattle.dsql_history.specs.Readers.Unfinished.{unfinished}
 use Rattle.dsql_history.specs.Rules.House.{is_quiet}
 use Rattle.dsql_follows.specs.declared.line.Line.{Line}
+use Rattle.dsql_laws_apart.specs.Apart.{are_apart}
 use Rattle.dsql_laws_steps.specs.Groups.{most_events}
 use Rattle.dsql_run_wires.specs.Told.{with_told}
 use Rattle.dsql_run_player.specs.Planned.{plans_made}
@@ -65,6 +65,7 @@ pub record Ran (stopped : Result Unit Stop) (before after : Seen) : Type 0 where
   pub asked : Option Caps
   pub lines : List Line
   pub legal : Legal history
+  pub apart : are_apart history ≡ true
   pub plays : Plays stopped before.left after.left (saying asked lines)
   pub follows : ran_out stopped ≡ true → FollowsAll (Run 1 after.ability) lines history
   pub short : ran_out stopped ≡ false → StopsAsking (Run 1 after.ability) lines history before.told after.told
@@ -144,7 +145,7 @@ pub record PlaysWholeAs (text : List Line → List Event
   pub asked : Option Caps
   pub lines : List Line
   pub legal : Legal history
-  pub apart : AreApart history
+  pub apart : are_apart history ≡ true
   pub says : Says before.left (whole (saying asked lines))
   pub follows : FollowsAll (Run 1 after.ability) lines history
   pub prefers : Prefers asked before.preferred after.preferred before.ability after.ability

@@ -1,4 +1,5 @@
 use Rattle.std.proofs.Common.{◌∙◌, ap, inl, inr, refl}
+use Rattle.dsql_laws_apart.proofs.Histories.{all_apart}
 use Rattle.dsql_run_outcome.specs.driver.Streams.{has_risen}
 use Rattle.dsql_run_outcome.specs.history.declared.event.Event.TheVariants.{Run}
 use Rattle.dsql_run_outcome.specs.script_source.Script.{nothing}
@@ -69,6 +70,7 @@ returns g c =
       asked = head.asked;
       lines = script.lines;
       legal = c.play_from-stopped.ensures.on.legal;
+      apart = all_apart c.play_from-stopped.new.player.past c.play_from-stopped.ensures.on.legal.lawful;
       plays = script.plays;
       follows = script.follows;
       short = script.short;
