@@ -10,4 +10,3 @@ pub mod Transacted
 pub mod Rows
 pub mod Tidying
 pub mod KeptApart
-pub mod Histories

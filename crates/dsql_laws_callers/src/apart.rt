@@ -8,7 +8,6 @@ ghost use Rattle.dsql_laws_calls.specs.history.declared.event.Event.TheVariants.
 ghost use Rattle.dsql_laws_calls.specs.history.Readers.Course.{has_ended};
 ghost use Rattle.dsql_laws_calls.specs.history.Readers.Works.{work, asks, borrower};
 ghost use Rattle.dsql_laws_calls.specs.history.Legal.{Lawful};
-ghost use Rattle.dsql_laws_callers.specs.Apart.{AreApart};
 
 /// Callers are kept apart. What a call sends in a tenure of a call or a transaction is sent on the connection that the
 /// call uses. That connection is lent to that owner. A call on the database uses its own connection, and a call for
@@ -31,9 +30,4 @@ pub fn callers_are_kept_apart()
         → has_ended before ≡ true }
     ensures outside { (before : List Event) (e : Entry) → Lawful (Heard e ∷ before) → e.call_no ≢ 0
         → asks (work before e.call_no) ≡ true → number_of e.owner ≡ e.call_no }
-{}
-
-/// In a lawful history each call sends only where it may, in its own transaction or in none.
-pub fn histories_keep_callers_apart()
-    ensures { (history : List Event) → Lawful history → AreApart history }
 {}
