@@ -17,9 +17,9 @@ use Rattle.dsql_history.specs.declared.event.Event.{Event}
 use Rattle.dsql_history.specs.declared.event.Event.TheVariants.{Heard}
 use Rattle.dsql_history.specs.Readers.Journals.{journal}
 use Rattle.dsql_run_wires.specs.Asked.{Answers, Performs, Connects}
-use Rattle.dsql_run_wires.specs.Plans.{Made, plans_on}
+use Rattle.dsql_run_wires.specs.Made.{Made, aside_on, no_aside}
 use Rattle.dsql_run_wires.specs.Told.{hears_nothing, fleet_told, FleetTells, retired_slot}
-use Rattle.dsql_run_wires.specs.WiresFit.{slot, HoldsWire, FitsAt, WiresFit, HearsEntry, KeepsPlans, OpensWire}
+use Rattle.dsql_run_wires.specs.WiresFit.{slot, HoldsWire, FitsAt, WiresFit, HearsEntry, KeepsPlans, OpensWire, RecordsAside}
 use Rattle.dsql_run_wires.proofs.Permits.{conn_of_answered, sent_wired}
 use Rattle.dsql_run_wires.proofs.Reading.{unheard_told, answered_told, shut_told, connect_told, slot_told}
 use Rattle.dsql_run_wires.proofs.Plans.{answered_plans, heard_plans, opened_plans, shut_plans, unheard_plans}
@@ -120,7 +120,7 @@ gone_tells heard p e more past before mid after fleet h shuts taken exactly quie
     let tells : FleetTells heard [] fleet (retired_slot heard e.conn (slot mid e.conn) fleet) past now before after =
     slot_told heard e.conn (e ∷ journal past e.conn) (slot mid e.conn) fleet past now before after holds
     (subst (λ (n : ℕ). IfSome (slot mid n) (λ w. IfSome (heard w.wire) (TellsOf w.conn w.journal))) (sym of.conn) exactly)
-    (λ made plans. heard_plans heard e (plans_on made e.conn) (slot before e.conn) (slot mid e.conn) noted (plans e.conn).told)
+    (λ made plans. heard_plans heard e (aside_on made e.conn) (slot before e.conn) (slot mid e.conn) noted (plans e.conn).told)
     (λ made. unheard_told made more (Heard e ∷ past) quiet ∙ shut_told made past e (ap is_shut of.call ∙ shuts))
     keeps in
     subst (λ (n : ℕ). FleetTells heard [] fleet (retired_slot heard n (slot mid n) fleet) past now before after) of.conn tells
@@ -143,7 +143,7 @@ pub connected_tells : {W : Type 0} (heard : W → Option WireTold) (telling : Bo
 connected_tells heard telling p e more past before after fleet h no_want opens nothing quiet =
     let of = is_of p e h.entry in
     let now : List Event = more ++ Heard e ∷ past in
-    let unplanned = subst (λ (n : ℕ). IfSome (slot after n) (λ w. IfSome (heard w.wire) (λ told. told.plans ≡ []))) (sym of.conn) h.unplanned in
+    let unplanned = subst (λ (n : ℕ). RecordsAside heard no_aside (slot after n)) (sym of.conn) h.unplanned in
     let keeps : KeepsPlans heard past now before after =
     λ made plans. unheard_plans heard made more (Heard e ∷ past) after quiet
     (opened_plans heard past e before after (ap (journal past) of.conn ∙ nothing) (others_of p e before after of h.others) unplanned made plans) in

@@ -3,15 +3,15 @@
 use Rattle.std.proofs.Common.{◌≡◌, ℕ, suc, Bool, true, false, cond, List, [], ◌∷◌, ◌++◌, length, Option, Some, None, refl, sym, ◌∙◌, ap, subst, append_assoc}
 use Rattle.std.specs.Prelude.{option_map, reverse, is_some, IfSome, MatchBool}
 use Rattle.std.proofs.lemmas.List.{append-nil, get_or_past, length-reverse, reverse-append}
-use Rattle.dsql_history.specs.driver.Wires.{WireTold, FleetTold, PlanMade, RetiredWire, with_retired, retired_after}
+use Rattle.dsql_history.specs.driver.Wires.{WireTold, FleetTold, RetiredWire, with_retired, retired_after}
 use Rattle.dsql_history.specs.journal.declared.entry.Entry.{Entry}
 use Rattle.dsql_history.specs.declared.event.Event.{Event}
 use Rattle.dsql_history.specs.Readers.Journals.{journal}
 use Rattle.dsql_wire.specs.Journaled.{Journaled}
 use Rattle.dsql_wire.specs.Told.{TellsOf}
-use Rattle.dsql_run_wires.specs.Plans.{Made, plans_on}
+use Rattle.dsql_run_wires.specs.Made.{Aside, Made, aside_on}
 use Rattle.dsql_run_wires.specs.Told.{TellsJust, retired_from, retired_slot, tells_of, with_told}
-use Rattle.dsql_run_wires.specs.WiresFit.{slot, HoldsWire, IsWireOf, PlansFit, WiresFit, is_wired}
+use Rattle.dsql_run_wires.specs.WiresFit.{slot, HoldsWire, IsWireOf, PlansFit, RecordsAside, WiresFit, is_wired}
 use Rattle.dsql_run_wires.specs.Stopped.{GotAllBack, RecordsJournal, wire_left, wires_left}
 use Rattle.dsql_run_wires.proofs.Planned.{empty_unwired}
 use Rattle.dsql_run_wires.proofs.Reading.{told_whole}
@@ -58,7 +58,7 @@ none_told tells [] = refl
 none_told tells (None ∷ lower) = none_told tells lower
 none_told tells (Some w ∷ lower) = ap (retired_from tells lower) (gives_none (length lower) (tells w.wire)) ∙ none_told tells lower
 
--- A wire that records exactly its journal and these plans is given back with that record.
+-- A wire that records exactly its journal and these plans and wants is given back with that record.
 
 with_none : (t : FleetTold) → Some t ≡ Some (with_retired [] t)
 with_none t = ap (λ (rs : List RetiredWire). Some (record t { retired = rs })) (sym (append-nil t.retired))
@@ -67,18 +67,18 @@ records_wire : (c : ℕ) (told : Option WireTold) (all : WireTold) (t : FleetTol
 records_wire c None all t exactly some = absurd cc
 records_wire c (Some told) all t exactly some = ap (λ (w : WireTold). Some (with_retired ((c, w) ∷ []) t)) exactly
 
-records_slot : {W : Type 0} (heard : W → Option WireTold) (c : ℕ) (plans : List PlanMade) (entries : List Entry) (wire : Option (Journaled W)) (wired : Bool)
-    → MatchBool wired (HoldsWire heard true c entries wire) (wire ≡ None) → IfSome wire (λ w. IfSome (heard w.wire) (λ told. told.plans ≡ plans)) → RecordsJournal heard wire
-    → (t : FleetTold) → retired_slot heard c wire (Some t) ≡ Some (with_retired (cond wired ((c, tells_of c plans entries) ∷ []) []) t)
-records_slot heard c plans entries wire false fit planned exact t = ap (λ w. retired_slot heard c w (Some t)) fit ∙ with_none t
-records_slot heard c plans entries None true fit planned exact t = absurd fit
-records_slot heard c plans entries (Some w) true fit planned exact t =
+records_slot : {W : Type 0} (heard : W → Option WireTold) (c : ℕ) (aside : Aside) (entries : List Entry) (wire : Option (Journaled W)) (wired : Bool)
+    → MatchBool wired (HoldsWire heard true c entries wire) (wire ≡ None) → RecordsAside heard aside wire → RecordsJournal heard wire
+    → (t : FleetTold) → retired_slot heard c wire (Some t) ≡ Some (with_retired (cond wired ((c, tells_of c aside entries) ∷ []) []) t)
+records_slot heard c aside entries wire false fit planned exact t = ap (λ w. retired_slot heard c w (Some t)) fit ∙ with_none t
+records_slot heard c aside entries None true fit planned exact t = absurd fit
+records_slot heard c aside entries (Some w) true fit planned exact t =
     let holds : IsWireOf heard true c entries w = fit in
     let of : IfSome (heard w.wire) (TellsOf c entries) =
     subst (λ (j : List Entry). IfSome (heard w.wire) (TellsOf c j)) holds.journal (subst (λ (n : ℕ). IfSome (heard w.wire) (TellsOf n w.journal)) holds.conn exact) in
-    records_wire c (heard w.wire) (tells_of c plans entries) t (told_whole (heard w.wire) c plans entries of planned) (holds.tells refl)
+    records_wire c (heard w.wire) (tells_of c aside entries) t (told_whole (heard w.wire) c aside entries of planned) (holds.tells refl)
 
--- Holds if the fleet records what is given back of connection c's slot as its wire's journal and plans say.
+-- Holds if the fleet records what is given back of connection c's slot as its wire's journal, plans and wants say.
 abbrev GoesBack : {W : Type 0} → (W → Option WireTold) → List Made → List Event → ℕ → Option (Journaled W) → Type 0
 GoesBack heard made past c wire = (t : FleetTold) → retired_slot heard c wire (Some t) ≡ Some (with_retired (wire_left made past c) t)
 
@@ -97,7 +97,7 @@ left_told : {W : Type 0} (heard : W → Option WireTold) (made : List Made) (pas
 left_told heard made past ws None fit plans exact = none_told heard (reverse ws)
 left_told heard made past ws (Some t) fit plans exact =
     all_retired heard made past (reverse ws) t
-    (downward (GoesBack heard made past) ws (λ c. records_slot heard c (plans_on made c) (journal past c) (slot ws c) (is_wired (journal past c)) (fit c) (plans c).told (exact c)))
+    (downward (GoesBack heard made past) ws (λ c. records_slot heard c (aside_on made c) (journal past c) (slot ws c) (is_wired (journal past c)) (fit c) (plans c).told (exact c)))
     ∙ ap (λ n. Some (with_retired (wires_left made past n) t)) (length-reverse ws)
 
 -- If all wires that are left are given back, the fleet records exactly them after the history.

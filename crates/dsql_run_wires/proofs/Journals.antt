@@ -1,6 +1,6 @@
 -- What was heard of each connection as a history goes on, and which connections have a wire then. The argument
 -- goes through the kinds of calls.
-use Rattle.std.proofs.Common.{◌≡◌, ◌≢◌, ◌==◌, ◌⊎◌, ℕ, Bool, true, false, ◌&&◌, ◌||◌, List, [], ◌∷◌, ◌++◌, refl, sym, ◌∙◌, arith}
+use Rattle.std.proofs.Common.{◌≡◌, ◌≢◌, ◌==◌, ◌⊎◌, ℕ, Bool, true, false, not, ◌&&◌, ◌||◌, List, [], ◌∷◌, ◌++◌, refl, sym, ◌∙◌, arith}
 use Rattle.std.specs.List.{list_all}
 use Rattle.std.proofs.lemmas.Bool.Decides.{nat_tests}
 use Rattle.dsql_history.specs.driver.Fits.{is_done}
@@ -23,6 +23,10 @@ other_number n m h = grind (arith, nat_tests)
 
 pub same_or_not : (n m : ℕ) → (n ≡ m) ⊎ (n ≢ m)
 same_or_not n m = grind (arith, nat_tests)
+
+pub not_so : (b : Bool) → not b ≡ true → b ≡ false
+not_so true h = absurd cc
+not_so false h = refl
 
 -- An entry is added to the journal of its connection, and to no other.
 pub journal_here : (past : List Event) (e : Entry) → journal (Heard e ∷ past) e.conn ≡ e ∷ journal past e.conn

@@ -4,7 +4,9 @@ pub mod Wiring
 pub mod Telling
 pub mod Reading
 pub mod Plans
+pub mod Asides
 pub mod Planned
+pub mod Wanted
 pub mod Staying
 pub mod GivenBack
 pub mod Stopped

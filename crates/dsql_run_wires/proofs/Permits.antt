@@ -16,18 +16,28 @@ use Rattle.dsql_history.specs.journal.Journal.{may_follow, is_journal_prefix}
 use Rattle.dsql_history.specs.journal.Kinds.{if_any}
 use Rattle.dsql_history.specs.journal.Permits.{entry_of}
 use Rattle.dsql_history.specs.journal.Readers.{is_empty, cursors_named, LiveCursor, was_refused, was_shut}
-use Rattle.dsql_history.proofs.journal.Conjunctions.{parts2, join2, join5}
+use Rattle.dsql_history.proofs.journal.Conjunctions.{parts2, parts5, join2, join5}
 use Rattle.dsql_history.proofs.journal.Sentences.{MayFollow-of}
 use Rattle.dsql_tenure.specs.Judged.{answered}
 use Rattle.dsql_wire.specs.Journaled.{MayBeSent, permit_of}
 use Rattle.dsql_wire.specs.declared.fault.WireFault.{WireFault}
-use Rattle.dsql_wire.specs.declared.fault.WireFault.TheVariants.{Stray}
+use Rattle.dsql_wire.specs.declared.fault.WireFault.TheVariants as faults
 use Rattle.dsql_wire.proofs.Answered.{makes}
 use Rattle.dsql_run_wires.specs.WiresFit.{was_opened, is_wired}
+use Rattle.dsql_run_wires.proofs.Journals.{not_so}
 
--- A stray permit is the one that was handed back.
-pub stray_of : (fault : WireFault) (q p : Permit) → fault ≡ Stray q → permit_of fault ≡ p → fault ≡ Stray p
-stray_of fault q p is back = is ∙ ap (λ (k : Permit). Stray k) (ap permit_of (sym is) ∙ back)
+-- The permit of a fault is the one that was handed back.
+
+pub stray_of : (fault : WireFault) (q p : Permit) → fault ≡ faults.Stray q → permit_of fault ≡ p → fault ≡ faults.Stray p
+stray_of fault q p is back = is ∙ ap faults.Stray (ap permit_of (sym is) ∙ back)
+
+pub memory_of : (fault : WireFault) (q p : Permit) → fault ≡ faults.Memory q → permit_of fault ≡ p → fault ≡ faults.Memory p
+memory_of fault q p is back = is ∙ ap faults.Memory (ap permit_of (sym is) ∙ back)
+
+-- An answer that fits at its place isn't Memory.
+pub heard_answer : (before : List Entry) (e : Entry) → fits_at_its_place before e ≡ true → is_memory e.answer ≡ false
+heard_answer before e fits =
+    not_so (is_memory e.answer) (parts5 (is_heard e) (is_fitting e) (gives_new_handle before e) (gives_new_cursor before e) (has_width_of_cursor before e) fits).0
 
 -- The entry that an answer makes of a permit is of the permit's connection.
 pub conn_of_answered : (p : Permit) (a : DriverAnswer) → (answered p a).conn ≡ p.conn

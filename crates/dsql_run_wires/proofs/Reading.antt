@@ -3,17 +3,17 @@ use Rattle.std.proofs.Common.{◌≡◌, ℕ, true, false, List, [], ◌∷◌, 
 use Rattle.std.specs.Prelude.{is_some, IfSome}
 use Rattle.std.specs.List.{list_all}
 use Rattle.dsql_history.specs.driver.Kinds.{is_connect, is_shut}
-use Rattle.dsql_history.specs.driver.Wires.{WireTold, FleetTold, PlanMade, with_connects, with_retired}
+use Rattle.dsql_history.specs.driver.Wires.{WireTold, FleetTold, with_connects, with_retired}
 use Rattle.dsql_history.specs.journal.declared.entry.Entry.{Entry}
 use Rattle.dsql_history.proofs.journal.Conjunctions.{parts2}
 use Rattle.dsql_history.specs.declared.event.Event.{Event}
 use Rattle.dsql_history.specs.declared.event.Event.TheVariants.{Heard}
 use Rattle.dsql_history.specs.Readers.Journals.{journal}
-use Rattle.dsql_wire.specs.Told.{told_of, TellsOf}
+use Rattle.dsql_wire.specs.Told.{TellsOf}
 use Rattle.dsql_wire.specs.Journaled.{Journaled}
-use Rattle.dsql_run_wires.specs.Plans.{Made, plans_on}
+use Rattle.dsql_run_wires.specs.Made.{Aside, Made, aside_of, aside_on}
 use Rattle.dsql_run_wires.specs.Told.{hears_nothing, tells_of, fleet_told, FleetTells, retired_slot}
-use Rattle.dsql_run_wires.specs.WiresFit.{HoldsWire, KeepsPlans, PlansFit}
+use Rattle.dsql_run_wires.specs.WiresFit.{HoldsWire, KeepsPlans, PlansFit, RecordsAside}
 use Rattle.dsql_run_wires.proofs.Journals.{shut_only}
 use Rattle.dsql_run_wires.proofs.Telling.{tells_gone}
 
@@ -33,29 +33,29 @@ pub answered_told : (made : List Made) (past : List Event) (e : Entry) → is_co
 answered_told made past e opens shuts = rw (opens, shuts) refl
 
 pub shut_told : (made : List Made) (past : List Event) (e : Entry) → is_shut e.call ≡ true
-    → fleet_told made (Heard e ∷ past) ≡ with_retired ((e.conn, tells_of e.conn (plans_on made e.conn) (e ∷ journal past e.conn)) ∷ []) (fleet_told made past)
+    → fleet_told made (Heard e ∷ past) ≡ with_retired ((e.conn, tells_of e.conn (aside_on made e.conn) (e ∷ journal past e.conn)) ∷ []) (fleet_told made past)
 shut_told made past e shuts = rw (shut_only e.call shuts, shuts) refl
 
 pub connect_told : (made : List Made) (past : List Event) (e : Entry) → is_connect e.call ≡ true → fleet_told made (Heard e ∷ past) ≡ with_connects ((e.conn, e.answer) ∷ []) (fleet_told made past)
 connect_told made past e opens = rw opens refl
 
--- A wire with this journal and these plans that keeps a record records exactly them.
-pub told_whole : (told : Option WireTold) (c : ℕ) (plans : List PlanMade) (entries : List Entry) → IfSome told (TellsOf c entries) → IfSome told (λ t. t.plans ≡ plans) → IfSome told (λ t. t ≡ tells_of c plans entries)
-told_whole None c plans entries h all = tt
-told_whole (Some told) c plans entries h all =
-    ap (λ n. record { number = n; calls = told.calls; plans = told.plans }) h.number
-    ∙ ap (λ calls. record { number = c; calls = calls; plans = told.plans }) h.calls
-    ∙ ap (λ plans. record { number = c; calls = told_of entries; plans = plans }) all
+-- A wire with this journal and these plans and wants that keeps a record records exactly them.
+pub told_whole : (told : Option WireTold) (c : ℕ) (aside : Aside) (entries : List Entry) → IfSome told (TellsOf c entries) → IfSome told (λ t. aside_of t ≡ aside) → IfSome told (λ t. t ≡ tells_of c aside entries)
+told_whole None c aside entries h all = tt
+told_whole (Some told) c aside entries h all =
+    ap (λ n. record { number = n; calls = told.calls; plans = told.plans; wanted = told.wanted }) h.number
+    ∙ ap (λ calls. record { number = c; calls = calls; plans = told.plans; wanted = told.wanted }) h.calls
+    ∙ ap (λ (its : Aside). tells_of c its entries) all
 
 -- If the wire of a slot is given back, the fleet records it.
 pub slot_told : {W : Type 0} (heard : W → Option WireTold) (c : ℕ) (entries : List Entry) (wire : Option (Journaled W)) (fleet : Option FleetTold) (old new : List Event) (slots now : List (Option (Journaled W)))
     → HoldsWire heard (is_some fleet) c entries wire → IfSome wire (λ w. IfSome (heard w.wire) (TellsOf w.conn w.journal))
-    → ((made : List Made) → PlansFit heard made old slots → IfSome wire (λ w. IfSome (heard w.wire) (λ told. told.plans ≡ plans_on made c)))
-    → ((made : List Made) → fleet_told made new ≡ with_retired ((c, tells_of c (plans_on made c) entries) ∷ []) (fleet_told made old))
+    → ((made : List Made) → PlansFit heard made old slots → RecordsAside heard (aside_on made c) wire)
+    → ((made : List Made) → fleet_told made new ≡ with_retired ((c, tells_of c (aside_on made c) entries) ∷ []) (fleet_told made old))
     → KeepsPlans heard old new slots now → FleetTells heard [] fleet (retired_slot heard c wire fleet) old new slots now
 slot_told heard c entries None fleet old new slots now holds exactly plans told keeps = absurd holds
 slot_told heard c entries (Some w) fleet old new slots now holds exactly plans told keeps =
     let of : IfSome (heard w.wire) (TellsOf c entries) =
     subst (λ (j : List Entry). IfSome (heard w.wire) (TellsOf c j)) holds.journal (subst (λ (n : ℕ). IfSome (heard w.wire) (TellsOf n w.journal)) holds.conn exactly) in
-    tells_gone heard c (heard w.wire) (λ made. tells_of c (plans_on made c) entries) fleet old new slots now holds.tells
-    (λ made fit. told_whole (heard w.wire) c (plans_on made c) entries of (plans made fit)) told keeps
+    tells_gone heard c (heard w.wire) (λ made. tells_of c (aside_on made c) entries) fleet old new slots now holds.tells
+    (λ made fit. told_whole (heard w.wire) c (aside_on made c) entries of (plans made fit)) told keeps

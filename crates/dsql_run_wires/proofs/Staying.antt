@@ -2,11 +2,11 @@
 -- argument goes from the slots to what fits them.
 use Rattle.std.proofs.Common.{◌≡◌, inl, inr, ℕ, Bool, List, Option, Some, None, refl, sym, ap, subst, set}
 use Rattle.std.specs.Prelude.{is_some, IfSome}
-use Rattle.dsql_history.specs.driver.Wires.{WireTold, PlanMade}
+use Rattle.dsql_history.specs.driver.Wires.{WireTold}
 use Rattle.dsql_history.specs.journal.declared.entry.Entry.{Entry}
 use Rattle.dsql_history.specs.Readers.Journals.{journal}
 use Rattle.dsql_wire.specs.Journaled.{Journaled}
-use Rattle.dsql_run_wires.specs.Plans.{plans_on}
+use Rattle.dsql_run_wires.specs.Made.{Aside, aside_of, aside_on}
 use Rattle.dsql_run_wires.specs.WiresFit.{slot, FitsAt, PlansAt, SameHeard, SameHeardIn, SameWires}
 use Rattle.dsql_run_wires.proofs.Journals.{same_or_not}
 use Rattle.dsql_run_wires.proofs.Slots.{slot_elsewhere, set_wire}
@@ -22,17 +22,17 @@ fits_in {W} heard telling c entries None after same fit = subst (λ (w : Option 
 fits_in heard telling c entries (Some b) None same fit = absurd same
 fits_in heard telling c entries (Some b) (Some a) same fit = fits_at_still heard telling c entries b a (record { conn = same.conn; journal = same.journal; telling = ap is_some same.told }) fit
 
-plans_in : {W : Type 0} (heard : W → Option WireTold) (plans : List PlanMade) (entries : List Entry) (before after : Option (Journaled W)) → SameHeardIn heard before after → PlansAt heard plans entries before
-    → PlansAt heard plans entries after
-plans_in {W} heard plans entries None after same at = subst (λ (w : Option (Journaled W)). PlansAt heard plans entries w) (sym same) at
-plans_in heard plans entries (Some b) None same at = absurd same
-plans_in heard plans entries (Some b) (Some a) same at = record { unheard = at.unheard; told = subst (λ (told : Option WireTold). IfSome told (λ t. t.plans ≡ plans)) (sym same.told) at.told }
+plans_in : {W : Type 0} (heard : W → Option WireTold) (aside : Aside) (entries : List Entry) (before after : Option (Journaled W)) → SameHeardIn heard before after → PlansAt heard aside entries before
+    → PlansAt heard aside entries after
+plans_in {W} heard aside entries None after same at = subst (λ (w : Option (Journaled W)). PlansAt heard aside entries w) (sym same) at
+plans_in heard aside entries (Some b) None same at = absurd same
+plans_in heard aside entries (Some b) (Some a) same at = record { unheard = at.unheard; told = subst (λ (told : Option WireTold). IfSome told (λ t. aside_of t ≡ aside)) (sym same.told) at.told }
 
 same_wires : {W : Type 0} (heard : W → Option WireTold) (before after : List (Option (Journaled W))) → ((c : ℕ) → SameHeardIn heard (slot before c) (slot after c)) → SameWires heard before after
 same_wires heard before after each = record {
   each = each;
   fits = λ past telling fit c. fits_in heard telling c (journal past c) (slot before c) (slot after c) (each c) (fit c);
-  plans = λ past made fit c. plans_in heard (plans_on made c) (journal past c) (slot before c) (slot after c) (each c) (fit c);
+  plans = λ past made fit c. plans_in heard (aside_on made c) (journal past c) (slot before c) (slot after c) (each c) (fit c);
 }
 
 -- If each slot is as it was, all wires are as before.

@@ -1,13 +1,10 @@
 -- Wires that fit a history also fit the next one. The argument is that an answer changes only the slot and the
 -- journal of its connection.
 use Rattle.std.proofs.Common.{◌≡◌, ◌≢◌, inl, inr, ℕ, Bool, true, false, List, [], ◌∷◌, ◌++◌, Option, Some, None, refl, sym, ◌∙◌, ap, subst, set}
-use Rattle.std.specs.Prelude.{is_some, IsSomeAnd, MatchBool}
+use Rattle.std.specs.Prelude.{option_map, is_some, IsSomeAnd, MatchBool}
 use Rattle.std.specs.List.{list_all}
 use Rattle.dsql_history.specs.driver.Kinds.{is_connect, is_shut}
-use Rattle.dsql_history.specs.driver.Wires.{WireTold, told_after}
-use Rattle.dsql_history.specs.driver.declared.call.DriverCall.{DriverCall}
-use Rattle.dsql_history.specs.driver.declared.answer.DriverAnswer.{DriverAnswer}
-use Rattle.dsql_history.specs.driver.declared.answer.DriverAnswer.TheVariants.{Memory}
+use Rattle.dsql_history.specs.driver.Wires.{WireTold, with_call}
 use Rattle.dsql_history.specs.journal.HandlesAndCursors.{fits_at_its_place}
 use Rattle.dsql_history.specs.journal.declared.entry.Entry.{Entry}
 use Rattle.dsql_history.specs.declared.event.Event.{Event}
@@ -19,11 +16,10 @@ use Rattle.dsql_run_wires.specs.WiresFit.{slot, is_wired, HoldsWire, FitsAt, Wir
 use Rattle.dsql_run_wires.proofs.Journals.{same_or_not, journal_here, journal_elsewhere, unheard_event, unheard, still_wired, shut_unwired, opened_wired}
 use Rattle.dsql_run_wires.proofs.Slots.{slot_elsewhere, set_default}
 
--- After one more call a wire keeps a record exactly if it kept one before.
-some_told : (call : DriverCall) (answer : DriverAnswer) (told : Option WireTold) → is_some (told_after call answer told) ≡ is_some told
-some_told call Memory told = refl
-some_told call _ None = refl
-some_told call _ (Some told) = refl
+-- A record that changes is still there.
+pub still_some : {A B : Type 0} (change : A → B) (record_of : Option A) → is_some (option_map change record_of) ≡ is_some record_of
+still_some change None = refl
+still_some change (Some old) = refl
 
 -- If a slot holds its wire and the wire hears one more entry, it still holds its wire.
 holds_more : {W : Type 0} (heard : W → Option WireTold) (telling : Bool) (e : Entry) (c : ℕ) (entries : List Entry) (before after : Option (Journaled W)) → HoldsWire heard telling c entries before
@@ -33,7 +29,7 @@ holds_more heard telling e c entries (Some b) None h t = absurd t
 holds_more heard telling e c entries (Some b) (Some a) h t = record {
   conn = t.conn ∙ h.conn;
   journal = t.journal ∙ ap (λ j. e ∷ j) h.journal;
-  tells = λ all. ap is_some t.told ∙ some_told e.call e.answer (heard b.wire) ∙ h.tells all;
+  tells = λ all. ap is_some t.told ∙ still_some (with_call (e.call, e.answer)) (heard b.wire) ∙ h.tells all;
 }
 
 -- The slot of a connection that has a wire holds it, and an empty slot fits a connection that has none.

@@ -1,5 +1,5 @@
 -- A driver call and its answer, as the wires see it.
-use Rattle.std.specs.Prelude.{ℕ, ◌≡◌, ◌≢◌, Bool, true, false, List, [], Option, Some, None, IfSome}
+use Rattle.std.specs.Prelude.{ℕ, ◌≡◌, ◌≢◌, ◌⊎◌, Bool, true, false, List, Option, Some, None}
 use Rattle.dsql_history.specs.driver.Fits.{is_memory}
 use Rattle.dsql_history.specs.driver.Wires.{WireTold, FleetTold, Plan, plans_after}
 use Rattle.dsql_history.specs.journal.declared.entry.Entry.{Entry}
@@ -7,7 +7,8 @@ use Rattle.dsql_history.specs.journal.declared.entry.Permit.{Permit}
 use Rattle.dsql_history.specs.journal.HandlesAndCursors.{fits_at_its_place}
 use Rattle.dsql_tenure.specs.Judged.{answered}
 use Rattle.dsql_wire.specs.Journaled.{Journaled}
-use Rattle.dsql_run_wires.specs.WiresFit.{slot, HearsEntry, HearsPlan, OpensWire}
+use Rattle.dsql_run_wires.specs.Made.{no_aside}
+use Rattle.dsql_run_wires.specs.WiresFit.{slot, HearsEntry, HearsPlan, OpensWire, RecordsAside, SameWires, WantsIn}
 
 -- Holds if the entry is what an answer makes of the permit, and fits after this journal.
 pub record Answers (permit : Permit) (journal : List Entry) (heard : Entry) : Type 0 where
@@ -22,15 +23,27 @@ pub record Performs {W : Type 0} (heard : W
   pub others : (c : ℕ) → c ≢ permit.conn → slot after c ≡ slot before c
   pub noted : HearsEntry heard e (slot before permit.conn) (slot after permit.conn)
 
--- Holds if the wire that the permit's Connect opened, unless it was refused, is in its slot with no plan, and
--- no other slot changed.
+-- Holds if the wire of the permit's connection answered the permit's call Memory, and no other slot changed.
+pub record WantsCall {W : Type 0} (heard : W
+    → Option WireTold) (permit : Permit) (before after : List (Option (Journaled W))) : Type 0 where
+  pub others : (c : ℕ) → c ≢ permit.conn → slot after c ≡ slot before c
+  pub wanted : WantsIn heard permit.call (slot before permit.conn) (slot after permit.conn)
+
+-- Holds if memory was wanting for the permit's call. The driver answered it Memory, or it wasn't asked and all wires
+-- are as they were.
+abbrev pub LacksMemory : {W : Type 0} → (W → Option WireTold) → Permit → List (Option (Journaled W))
+    → List (Option (Journaled W)) → Type 0
+LacksMemory heard permit before after = SameWires heard before after ⊎ WantsCall heard permit before after
+
+-- Holds if the wire that the permit's Connect opened, unless it was refused, is in its slot with no plan and no want.
+-- No other slot changed.
 pub record Connects {W : Type 0} (heard : W
     → Option WireTold) (telling : Bool) (permit : Permit) (e : Entry)
     (before after : List (Option (Journaled W))) : Type 0 where
   pub entry : e ≡ answered permit e.answer
   pub others : (c : ℕ) → c ≢ permit.conn → slot after c ≡ slot before c
   pub wire : OpensWire heard telling e (slot after permit.conn)
-  pub unplanned : IfSome (slot after permit.conn) (λ w. IfSome (heard w.wire) (λ told. told.plans ≡ []))
+  pub unplanned : RecordsAside heard no_aside (slot after permit.conn)
 
 -- Says what is in a slot after a fault was planned for its connection, and what the fleet records then.
 abbrev pub TakesPlan : {W : Type 0} → (W → Option WireTold) → ℕ → Plan → Option FleetTold → Option FleetTold

@@ -1,4 +1,4 @@
-pub mod Plans
+pub mod Made
 pub mod WiresFit
 pub mod Asked
 pub mod Told

@@ -1,9 +1,11 @@
 -- Which connections have a wire, and what each wire has heard.
-use Rattle.std.specs.Prelude.{ℕ, ◌+◌, ◌≡◌, Bool, true, not, ◌&&◌, cond, List, [], ◌∷◌, length, slice_index_or, Option, Some, None, is_some, IfSome, MatchBool}
+use Rattle.std.specs.Prelude.{ℕ, ◌+◌, ◌≡◌, Bool, true, not, ◌&&◌, cond, List, [], ◌∷◌, length, slice_index_or, Option, Some, None, is_some, option_map, IfSome, MatchBool}
 use Rattle.std.specs.List.{list_any}
 use Rattle.dsql_history.specs.driver.Fits.{is_done}
 use Rattle.dsql_history.specs.driver.Kinds.{is_connect}
-use Rattle.dsql_history.specs.driver.Wires.{WireTold, Plan, PlanMade, told_after, planned_after}
+use Rattle.dsql_history.specs.driver.Wires.{WireTold, Plan, told_after, planned_after, with_call}
+use Rattle.dsql_history.specs.driver.declared.call.DriverCall.{DriverCall}
+use Rattle.dsql_history.specs.driver.declared.answer.DriverAnswer.TheVariants.{Memory}
 use Rattle.dsql_history.specs.journal.declared.entry.Entry.{Entry}
 use Rattle.dsql_history.specs.journal.Readers.{was_shut}
 use Rattle.dsql_history.specs.declared.event.Event.{Event}
@@ -11,7 +13,7 @@ use Rattle.dsql_history.specs.declared.event.Event.TheVariants.{Heard}
 use Rattle.dsql_history.specs.Readers.Journals.{journal}
 use Rattle.dsql_wire.specs.Journaled.{Journaled}
 use Rattle.dsql_wire.specs.Told.{TellsOf}
-use Rattle.dsql_run_wires.specs.Plans.{Made, plans_on}
+use Rattle.dsql_run_wires.specs.Made.{Aside, Made, PlannedAhead, PlannedOn, aside_of, aside_on, no_aside}
 
 -- Returns the wire of connection c, if it has one.
 abbrev pub slot : {W : Type 0} → List (Option W) → ℕ → Option W
@@ -54,32 +56,34 @@ connects_heard [] = 0
 connects_heard (Heard e ∷ before) = cond (is_connect e.call) (connects_heard before + 1) (connects_heard before)
 connects_heard (_ ∷ before) = connects_heard before
 
--- Returns how much was heard before a fault is planned for connection c after this history. That is the calls of the
--- connection if it has a wire, and the Connects otherwise.
-abbrev pub heard_before : ℕ → List Event → ℕ
-heard_before c past = cond (is_wired (journal past c)) (length (journal past c)) (connects_heard past)
-
--- Returns a fault that is planned for connection c after this history.
+-- Returns a fault that is planned for connection c after this history. It stands with the number of calls that the
+-- connection's wire has heard, or with the number of Connects if the connection has no wire.
 abbrev pub made_at : ℕ → Plan → List Event → Made
-made_at c plan past = record { wired = is_wired (journal past c); conn = c; heard = heard_before c past; plan = plan }
+made_at c plan past =
+    cond (is_wired (journal past c)) (PlannedOn c (length (journal past c), plan))
+    (PlannedAhead (connects_heard past, (c, plan)))
 
--- Holds if what is in a connection's slot fits the plans that were made on its wire. A wire that keeps a record
--- records exactly these, and before anything was heard of the connection there were none.
+-- Holds if the slot is empty, or if its wire records exactly these plans and wants. A wire may also keep no record.
+abbrev pub RecordsAside : {W : Type 0} → (W → Option WireTold) → Aside → Option (Journaled W) → Type 0
+RecordsAside heard aside wire = IfSome wire (λ w. IfSome (heard w.wire) (λ told. aside_of told ≡ aside))
+
+-- Holds if what is in a connection's slot fits the plans and wants of its wire. Before anything was heard of the
+-- connection there were none.
 pub record PlansAt {W : Type 0} (heard : W
-    → Option WireTold) (plans : List PlanMade) (entries : List Entry) (wire : Option (Journaled W)) : Type 0 where
-  pub unheard : entries ≡ [] → plans ≡ []
-  pub told : IfSome wire (λ w. IfSome (heard w.wire) (λ told. told.plans ≡ plans))
+    → Option WireTold) (aside : Aside) (entries : List Entry) (wire : Option (Journaled W)) : Type 0 where
+  pub unheard : entries ≡ [] → aside ≡ no_aside
+  pub told : RecordsAside heard aside wire
 
--- Holds if each wire that keeps a record records exactly the plans that were made on it.
+-- Holds if each wire that keeps a record records exactly its plans and wants.
 abbrev pub PlansFit : {W : Type 0} → (W → Option WireTold) → List Made → List Event → List (Option (Journaled W))
     → Type 0
-PlansFit heard made past slots = (c : ℕ) → PlansAt heard (plans_on made c) (journal past c) (slot slots c)
+PlansFit heard made past slots = (c : ℕ) → PlansAt heard (aside_on made c) (journal past c) (slot slots c)
 
 -- Holds if a wire hears one more entry.
 pub record Hears {W : Type 0} (heard : W → Option WireTold) (e : Entry) (before after : Journaled W) : Type 0 where
   pub conn : after.conn ≡ before.conn
   pub journal : after.journal ≡ e ∷ before.journal
-  pub told : heard after.wire ≡ told_after e.call e.answer (heard before.wire)
+  pub told : heard after.wire ≡ option_map (with_call (e.call, e.answer)) (heard before.wire)
 
 -- Holds if the wire in a slot hears one more entry.
 abbrev pub HearsEntry : {W : Type 0} → (W → Option WireTold) → Entry → Option (Journaled W) → Option (Journaled W)
@@ -87,7 +91,7 @@ abbrev pub HearsEntry : {W : Type 0} → (W → Option WireTold) → Entry → O
 HearsEntry heard e (Some before) (Some after) = Hears heard e before after
 HearsEntry heard e _ _ = ⊥
 
--- Holds if a wire has heard what it had heard before, and the same faults are planned on it.
+-- Holds if a wire has heard what it had heard before, with the same plans and wants.
 pub record SameHeard {W : Type 0} (heard : W → Option WireTold) (before after : Journaled W) : Type 0 where
   pub conn : after.conn ≡ before.conn
   pub journal : after.journal ≡ before.journal
@@ -98,6 +102,19 @@ abbrev pub SameHeardIn : {W : Type 0} → (W → Option WireTold) → Option (Jo
 SameHeardIn heard None after = after ≡ None
 SameHeardIn heard (Some before) None = ⊥
 SameHeardIn heard (Some before) (Some after) = SameHeard heard before after
+
+-- Holds if a wire has heard what it had heard before, and answered this call Memory.
+pub record Wants {W : Type 0} (heard : W
+    → Option WireTold) (call : DriverCall) (before after : Journaled W) : Type 0 where
+  pub conn : after.conn ≡ before.conn
+  pub journal : after.journal ≡ before.journal
+  pub told : heard after.wire ≡ told_after call Memory (heard before.wire)
+
+-- Holds if the wire in a slot answered this call Memory.
+abbrev pub WantsIn : {W : Type 0} → (W → Option WireTold) → DriverCall → Option (Journaled W) → Option (Journaled W)
+    → Type 0
+WantsIn heard call (Some before) (Some after) = Wants heard call before after
+WantsIn heard call _ _ = ⊥
 
 -- Holds if a fault is planned on a wire that recorded exactly its journal before.
 pub record HearsPlan {W : Type 0} (heard : W
@@ -125,14 +142,14 @@ abbrev pub KeepsFit : {W : Type 0} → (W → Option WireTold) → List Event �
 KeepsFit heard old new before after =
     (telling : Bool) → WiresFit heard telling old before → WiresFit heard telling new after
 
--- Holds if each wire records exactly the plans that were made on it afterwards, provided that it did before.
+-- Holds if each wire records exactly its plans and wants afterwards, provided that it did before. No more come.
 abbrev pub KeepsPlans : {W : Type 0} → (W → Option WireTold) → List Event → List Event
     → List (Option (Journaled W)) → List (Option (Journaled W)) → Type 0
 KeepsPlans heard old new before after =
     (made : List Made) → PlansFit heard made old before → PlansFit heard made new after
 
--- Holds if each wire has heard what it had heard before. The wires still fit every history that they fitted,
--- and so do the plans that were made on them.
+-- Holds if each wire has heard what it had heard before. The wires still fit every history that they fitted, and so do
+-- their plans and wants.
 pub record SameWires {W : Type 0} (heard : W
     → Option WireTold) (before after : List (Option (Journaled W))) : Type 0 where
   pub each : (c : ℕ) → SameHeardIn heard (slot before c) (slot after c)

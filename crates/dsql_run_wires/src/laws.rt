@@ -17,7 +17,7 @@ ghost use Rattle.dsql_history.specs.declared.event.Event.TheVariants.{Heard};
 ghost use Rattle.dsql_history.specs.Readers.Journals.{journal};
 ghost use Rattle.dsql_run_wires.specs.Asked.{Answers, Connects, Performs, Plans};
 ghost use Rattle.dsql_run_wires.specs.Extends.{Extends};
-ghost use Rattle.dsql_run_wires.specs.Plans.{Made};
+ghost use Rattle.dsql_run_wires.specs.Made.{Made};
 ghost use Rattle.dsql_run_wires.specs.Told.{FleetTells, fleet_told, hears_nothing, retired_slot};
 ghost use Rattle.dsql_run_wires.specs.WiresFit.{KeepsFit, WiresFit, is_wired, made_at, slot};
 

@@ -45,11 +45,12 @@ impl Seats {
         }
     }
 
-    /// Makes room for this client's seat if it has none.
+    /// Makes room for this client's seat if it has none. If it has one, the call takes no memory.
     pub fn seat_client(&mut self, client: u8) -> Result<(), Memory>
         ensures room { OnOk result (client < length self.new) }
         ensures same { (c : ℕ) → seat self.new c ≡ seat self.old c }
         ensures count { length self.old ≤ length self.new }
+        ensures lacking { OnErr result (length self.old ≤ client) }
     {
         while self.seats.len() <= client as usize {
             self.seats.push(AtHand::new(self.alloc))?;

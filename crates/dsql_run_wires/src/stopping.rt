@@ -1,7 +1,7 @@
-//! What wires and a fleet record if an act has to stop. They record one history: the run's, or the run's with one
-//! more answer. That answer may come next by every rule, but it couldn't be taken in. Each law is the contract of a
-//! function that does nothing. A history is read newest first.
-ghost use Rattle.std.specs.Prelude.{◌≡◌, [], ℕ, List, Option, None, true, false, is_some, reverse, slice_set};
+//! What wires and a fleet record if an act has to stop. They record the run's history, with at most one of two things
+//! more. One is an answer that may come next by every rule, but couldn't be taken in. The other is the want of a call
+//! that was due. Each law is the contract of a function that does nothing. A history is read newest first.
+ghost use Rattle.std.specs.Prelude.{◌≡◌, [], ℕ, Bool, List, Option, None, true, false, is_some, reverse, slice_set};
 ghost use Rattle.dsql_history.specs.driver.Fits.{is_memory};
 ghost use Rattle.dsql_history.specs.driver.Kinds.{is_connect, is_shut};
 ghost use Rattle.dsql_history.specs.driver.Wires.{FleetTold, connected_after};
@@ -11,23 +11,28 @@ ghost use Rattle.dsql_history.specs.declared.event.Event.{Event};
 ghost use Rattle.dsql_history.specs.declared.event.Event.TheVariants.{Heard};
 ghost use Rattle.dsql_history.specs.Legal.{Allowed};
 ghost use Rattle.dsql_history.specs.Readers.Journals.{journal};
+ghost use Rattle.dsql_wire.specs.Calling.{WantsConnect};
 ghost use Rattle.dsql_wire.specs.Journaled.{Journaled};
-ghost use Rattle.dsql_run_wires.specs.Asked.{Connects, Performs};
-ghost use Rattle.dsql_run_wires.specs.Plans.{Made};
-ghost use Rattle.dsql_run_wires.specs.Stopped.{GivesAllBack, GotAllBack, HearsAtMost, RecordsAtMost, RecordsJournal};
+ghost use Rattle.dsql_run_wires.specs.Asked.{Connects, LacksMemory, Performs};
+ghost use Rattle.dsql_run_wires.specs.Made.{Made};
+ghost use Rattle.dsql_run_wires.specs.Stopped.{GivesAllBack, GotAllBack, HearsAtMost, RecordsAtMost, RecordsJournal, TakesAnyAnswer};
 ghost use Rattle.dsql_run_wires.specs.Told.{FleetTells, TellsJust, retired_from, retired_slot, with_told};
 ghost use Rattle.dsql_run_wires.specs.WiresFit.{SameWires, WiresFit, is_wired, slot};
 
 use dsql_history::Wire;
 
-/// An act had to stop in which no connection was opened or shut. If all wires are as before, nothing more was heard.
-/// If a call was answered, at most that answer wasn't taken in. A fleet that wasn't asked has nothing to record.
-pub fn wires_hear_at_most_one_answer_more<W: Wire>()
+/// An act had to stop in which no connection was opened or shut. If all wires are as before, nothing more was heard. If
+/// a call was answered, at most that answer wasn't taken in. If memory was wanting for a call, at most that want came.
+/// A fleet that wasn't asked has nothing to record.
+pub fn wires_hear_at_most_one_call_more<W: Wire>()
     ensures nothing { (past : List Event) (slots now : List (Option (Journaled W)))
         → SameWires W.told slots now → HearsAtMost W.told past past slots now }
     ensures untaken { (permit : Permit) (e : Entry) (past : List Event) (slots now : List (Option (Journaled W)))
         → Performs W.told permit e slots now → is_connect permit.call ≡ false → is_shut permit.call ≡ false
         → Allowed past (Heard e) → HearsAtMost W.told past past slots now }
+    ensures lacking { (telling : Bool) (permit : Permit) (past : List Event) (slots now : List (Option (Journaled W)))
+        → WiresFit W.told telling past slots → LacksMemory W.told permit slots now → is_connect permit.call ≡ false
+        → TakesAnyAnswer past permit → HearsAtMost W.told past past slots now }
     ensures unasked { (planning : List Made) (fleet : Option FleetTold) (old new : List Event)
         (slots now : List (Option (Journaled W)))
         → WiresFit W.told (is_some fleet) old slots → HearsAtMost W.told old new slots now
@@ -35,14 +40,20 @@ pub fn wires_hear_at_most_one_answer_more<W: Wire>()
 {}
 
 /// A connection was opened, or it was shut and its wire given back, and then the act had to stop. At most that answer
-/// wasn't taken in. Only of an act that had been carried out was each answer taken in.
-pub fn a_fleet_records_at_most_one_answer_more<W: Wire>()
+/// wasn't taken in. If memory was wanting for a Connect, at most that want came. Only of an act that had been carried
+/// out was each answer taken in.
+pub fn a_fleet_records_at_most_one_call_more<W: Wire>()
     ensures opened { (permit : Permit) (e : Entry) (past : List Event) (slots now : List (Option (Journaled W)))
         (fleet : Option FleetTold)
         → Connects W.told (is_some fleet) permit e slots now → is_memory e.answer ≡ false
         → is_connect permit.call ≡ true → journal past permit.conn ≡ [] → Allowed past (Heard e)
         → WiresFit W.told (is_some fleet) past slots
         → RecordsAtMost W.told [] fleet (connected_after permit.conn e.answer fleet) past past slots now }
+    ensures lacking { (permit : Permit) (past : List Event) (slots now : List (Option (Journaled W)))
+        (fleet after : Option FleetTold)
+        → WiresFit W.told (is_some fleet) past slots → ((c : ℕ) → slot now c ≡ slot slots c)
+        → WantsConnect permit.conn fleet after → is_connect permit.call ≡ true → TakesAnyAnswer past permit
+        → RecordsAtMost W.told [] fleet after past past slots now }
     ensures shut { (permit : Permit) (e : Entry) (past : List Event) (slots mid now : List (Option (Journaled W)))
         (fleet : Option FleetTold)
         → Performs W.told permit e slots mid → is_shut permit.call ≡ true → now ≡ slice_set mid permit.conn None

@@ -1,11 +1,12 @@
-ghost use Rattle.std.specs.Prelude.{◌≡◌, ◌≢◌, ◌<◌, ℕ, true, false, Bool, List, [], ◌∷◌, length, vec_len, ◌≤◌, ◌^◌, slice_set, Option, Some, None, is_some, IfOk, OnOk, OnErr, IsSome, IsSomeAnd};
+ghost use Rattle.std.specs.Prelude.{◌≡◌, ◌≢◌, ◌<◌, ◌⊎◌, ℕ, true, false, Bool, List, [], ◌∷◌, length, vec_len, ◌≤◌, ◌^◌, slice_set, Option, Some, None, is_some, IfOk, OnOk, OnErr, IsSome, IsSomeAnd};
 ghost use Rattle.dsql_history.specs.driver.Fits.{is_memory};
 ghost use Rattle.dsql_history.specs.driver.declared.caps.Caps.{Caps};
 ghost use Rattle.dsql_history.specs.journal.HandlesAndCursors.{fits_at_its_place};
 ghost use Rattle.dsql_tenure.specs.Judged.{answered};
 ghost use Rattle.dsql_wire.specs.Journaled.{MayBeSent};
 ghost use Rattle.dsql_history.specs.declared.event.Event.TheVariants.{Run};
-ghost use Rattle.dsql_run_wires.specs.WiresFit.{slot, WiresFit, PlansFit, Hears, HearsEntry, HearsPlan, HearsPlanIn, SameHeard, SameWires};
+ghost use Rattle.dsql_run_wires.specs.Asked.{LacksMemory};
+ghost use Rattle.dsql_run_wires.specs.WiresFit.{slot, WiresFit, PlansFit, Hears, HearsEntry, HearsPlan, HearsPlanIn, SameHeard, SameWires, Wants};
 
 use dsql_history::{Memory, Permit, Planned, Wire};
 use dsql_wire::{Heard, ThinWire, WireFault};
@@ -127,7 +128,8 @@ impl<W: Wire> Wires<W> {
         slots
     }
 
-    /// Makes one driver call on the wire of its connection. The wire's journal must let the call be sent.
+    /// Makes one driver call on the wire of its connection. The wire's journal must let the call be sent. The driver is
+    /// asked once, or not at all if there is no memory before.
     pub fn perform(&mut self, permit: Permit) -> Result<Heard, Memory>
         requires { IsSomeAnd (slot self.old permit.conn) (λ w. MayBeSent w.conn w.journal permit) }
         ensures entry { IfOk result (λ heard. heard ≡ answered permit heard.answer) }
@@ -137,7 +139,7 @@ impl<W: Wire> Wires<W> {
         ensures others { (c : ℕ) → c ≢ permit.conn → slot self.new c ≡ slot self.old c }
         ensures noted { IfOk result
             (λ heard. HearsEntry W.told heard (slot self.old permit.conn) (slot self.new permit.conn)) }
-        ensures err { OnErr result (SameWires W.told self.old self.new) }
+        ensures err { OnErr result (LacksMemory W.told permit self.old self.new) }
     {
         match &mut self.slots[permit.conn as usize] {
             Some(wire) => perform_on(wire, permit),
@@ -153,7 +155,7 @@ fn perform_on<W: Wire>(wire: &mut ThinWire<W>, permit: Permit) -> Result<Heard, 
     ensures fits { IfOk result (λ heard. fits_at_its_place wire.old.journal heard ≡ true) }
     ensures no_want { IfOk result (λ heard. is_memory heard.answer ≡ false) }
     ensures noted { IfOk result (λ heard. Hears W.told heard wire.old wire.new) }
-    ensures err { OnErr result (SameHeard W.told wire.old wire.new) }
+    ensures err { OnErr result (SameHeard W.told wire.old wire.new ⊎ Wants W.told permit.call wire.old wire.new) }
 {
     match wire.perform(permit) {
         Ok(heard) => Ok(heard),
