@@ -26,15 +26,15 @@ use Rattle.dsql_run_wires.specs.Seats.{Seat, seat}
 use Rattle.dsql_engine_laws.specs.laws_steps.Groups.{after_heard}
 use Rattle.dsql_engine_laws.specs.Leaves.{IsLeave}
 use Rattle.dsql_engine_laws.specs.Turns.{flies}
-use Rattle.dsql_engine_laws.proofs.Leave.{leave_opens_none, leave_shuts_none}
+use Rattle.dsql_engine_laws.proofs.Leave.{leave_opens_none, leave_shuts_none, leave_welcomes}
 use Rattle.dsql_engine_laws.specs.wire.Journaled.{Journaled}
-use Rattle.dsql_run_wires.specs.Asked.{Performs}
-use Rattle.dsql_run_wires.specs.Plans.{Made}
-use Rattle.dsql_run_wires.specs.Stopped.{HearsAtMost}
+use Rattle.dsql_run_wires.specs.Asked.{LacksMemory, Performs}
+use Rattle.dsql_run_wires.specs.Made.{Made}
+use Rattle.dsql_run_wires.specs.Stopped.{HearsAtMost, TakesAnyAnswer}
 use Rattle.dsql_run_wires.specs.Told.{fleet_told}
 use Rattle.dsql_run_wires.specs.WiresFit.{KeepsFit, KeepsPlans, WiresFit, slot}
 use Rattle.dsql_run_wires.proofs.Asking.{wire_fits}
-use Rattle.dsql_run_wires.proofs.Stopped.{answer_untaken}
+use Rattle.dsql_run_wires.proofs.Stopped.{answer_untaken, call_lacking}
 use Rattle.dsql_run_player.specs.Keeping.{SameCourse}
 use Rattle.dsql_run_player.specs.Acts.{Hands}
 use Rattle.dsql_run_player.specs.Playing.{IsReady, KeepsLines, Playing}
@@ -95,6 +95,16 @@ answer_heard told p client permit e wires core past flights l has fit is there =
     may_be_heard core permit e (subst Lawful (sym past) l) (subst (λ (H : List Event). IsLeave H permit) (sym past) has.leave)
     (subst (λ (fs : List Flight). flies permit.call_no permit.conn fs ≡ true) (sym flights) has.there) is
     (subst (λ (H : List Event). fits_at_its_place (journal H e.conn) e ≡ true) (sym past) (wire_fits told false p.past permit e wires fit is there))
+
+-- The call is due: whatever its answer is, it may come next by every rule.
+call_takes_any_answer : (p : Playing) (client : ℕ) (permit : Permit) → IsReady p → HasLeave p client permit → TakesAnyAnswer p.past permit
+call_takes_any_answer p client permit ready has answer fits = allowed_welcome p.past (answered permit answer) ready.legal (leave_welcomes p.past permit answer ready.legal.lawful has.leave fits)
+
+-- If memory was wanting for the call, the wires have at most that want more.
+pub call_lacks : {W : Type 0} (told : W → Option WireTold) (p : Playing) (client : ℕ) (permit : Permit) (wires now : List (Option (Journaled W))) → IsReady p → HasLeave p client permit → WiresFit told false p.past wires
+    → LacksMemory told permit wires now → HearsAtMost told p.past p.past wires now
+call_lacks told p client permit wires now ready has fit lacks =
+    call_lacking told false permit p.past wires now fit lacks (leave_opens_none p.past permit ready.legal.lawful has.leave) (call_takes_any_answer p client permit ready has)
 
 -- If the answer isn't taken in, the wires hear at most that answer more.
 pub call_untaken : {W : Type 0} (told : W → Option WireTold) (p : Playing) (client : ℕ) (permit : Permit) (e : Entry) (wires now : List (Option (Journaled W))) → IsReady p → HasLeave p client permit → WiresFit told false p.past wires

@@ -7,7 +7,7 @@ use Rattle.dsql_engine_laws.specs.journal.declared.entry.Entry.{Entry}
 use Rattle.dsql_engine_laws.specs.history.declared.event.Event.{Event}
 use Rattle.dsql_engine_laws.specs.history.Readers.Journals.{journal}
 use Rattle.dsql_engine_laws.specs.wire.Journaled.{Journaled}
-use Rattle.dsql_run_wires.specs.Stopped.{HearsAtMost}
+use Rattle.dsql_run_wires.specs.Stopped.{HearsAtMost, NoSurplus}
 use Rattle.dsql_run_wires.specs.WiresFit.{FitsAt, HoldsWire, KeepsFit, KeepsPlans, WiresFit, is_wired, slot}
 use Rattle.dsql_run_wires.proofs.Plans.{alike_plans}
 use Rattle.dsql_run_player.specs.Carried.{HearsNothing}
@@ -33,13 +33,13 @@ fits_unheard heard old new slots h = λ telling fit c. subst (λ (entries : List
 pub fits_same : {W : Type 0} (heard : W → Option WireTold) (old new : List Event) (slots : List (Option (Journaled W))) → new ≡ old → KeepsFit heard old new slots slots
 fits_same heard old new slots same = λ telling fit. subst (λ (past : List Event). WiresFit heard telling past slots) (sym same) fit
 
--- If nothing is heard, the plans on the wires fit as before.
+-- If nothing is heard, the plans and wants of the wires fit as before.
 pub plans_unheard : {W : Type 0} (heard : W → Option WireTold) (old new : List Event) (slots : List (Option (Journaled W))) → HearsNothing old new → KeepsPlans heard old new slots slots
 plans_unheard heard old new slots h = alike_plans heard old new slots h.journals
 
--- If nothing is heard in an act that has to stop, the wires hear no answer more.
+-- If nothing is heard in an act that has to stop, the wires have no answer and no want more.
 pub stops_unheard : {W : Type 0} (heard : W → Option WireTold) (old new : List Event) (slots : List (Option (Journaled W))) → HearsNothing old new → HearsAtMost heard old new slots slots
-stops_unheard heard old new slots h = record { untaken = None; may = tt; fits = fits_unheard heard old new slots h; plans = plans_unheard heard old new slots h; told = h.told }
+stops_unheard heard old new slots h = record { surplus = NoSurplus; may = tt; fits = fits_unheard heard old new slots h; plans = plans_unheard heard old new slots h; told = h.told }
 
 -- What the wires hear in an act that has to stop depends on the histories alone.
 pub stops_there : {W : Type 0} (heard : W → Option WireTold) (old new : List Event) (slots now : List (Option (Journaled W))) → new ≡ old → HearsAtMost heard old old slots now → HearsAtMost heard old new slots now

@@ -15,7 +15,7 @@ use Rattle.dsql_engine_laws.specs.tenure.Judged.{answered}
 use Rattle.dsql_engine_laws.specs.wire.Journaled.{Journaled}
 use Rattle.dsql_run_wires.specs.Asked.{Performs}
 use Rattle.dsql_run_wires.specs.Told.{fleet_told, hears_nothing}
-use Rattle.dsql_run_wires.specs.Plans.{Made}
+use Rattle.dsql_run_wires.specs.Made.{Made}
 use Rattle.dsql_run_wires.specs.WiresFit.{KeepsFit, KeepsPlans, PlansFit, WiresFit}
 use Rattle.dsql_run_wires.proofs.Asking.{performed_fits, performed_plans, performed_told}
 use Rattle.dsql_run_wires.proofs.Journals.{unheard}
@@ -60,7 +60,7 @@ module _ {W : Type 0} (heard : W → Option WireTold) (permit : Permit) (e : Ent
       subst (λ H. WiresFit heard telling H after) (sym (answer_grown past history e n g))
       (performed_fits heard telling permit e g.group.more past before after performs opens shuts (all_quiet n g.group.more g.group.later) fit)
 
-  -- An answer on a wire plans no fault.
+  -- An answer on a wire adds no plan and no want.
   pub answer_plans : (before after : List (Option (Journaled W))) → Performs heard permit e before after → KeepsPlans heard past history before after
   answer_plans before after performs = λ made fit.
       subst (λ H. PlansFit heard made H after) (sym (answer_grown past history e n g))

@@ -29,6 +29,7 @@ use Rattle.dsql_engine.specs.Hearing.{MayBeHeard, is_on, is_under_way}
 use Rattle.dsql_engine_laws.proofs.laws_ends.Steps.{step_ended}
 use Rattle.dsql_engine_laws.specs.follows.Moments.{Moment, landed}
 use Rattle.dsql_run_wires.specs.Seats.{Seat, seat}
+use Rattle.dsql_run_wires.specs.Stopped.{TakesAnyAnswer}
 use Rattle.dsql_engine_laws.specs.laws_steps.Steps.{MakesStep, RestsAlone}
 use Rattle.dsql_engine_laws.proofs.laws_steps.Groups.{heard_is_one}
 use Rattle.dsql_engine_laws.specs.laws_steps.Groups.{after_heard}
@@ -81,6 +82,10 @@ answer_welcome p e core past chore it = record { flight = flight; welcome = subs
 
     welcome : IsWelcome p.past (answered it.permit e.answer)
     welcome = made.welcome e.answer fits
+
+-- The layer's own call is due: whatever its answer is, it may come next by every rule.
+pub chore_takes_any_answer : (p : Playing) (permit : Permit) → IsToMake p permit → TakesAnyAnswer p.past permit
+chore_takes_any_answer p permit it answer fits = allowed_welcome p.past (answered permit answer) it.ready.legal ((made_so p permit it).welcome answer fits)
 
 -- The answer may come next by every rule, whether or not it is taken in.
 pub answer_allowed : (p : Playing) (e : Entry) → IsAnswered p e → Allowed p.past (Heard e)

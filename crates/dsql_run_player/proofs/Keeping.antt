@@ -1,18 +1,22 @@
 -- Parts of a run, one after another, and parts in which no connection is opened or shut. The argument adds up
 -- what the fleet and the wires record.
-use Rattle.std.proofs.Common.{◌≡◌, List, [], Option, refl, sym, subst, is_some, ◌∙◌}
+use Rattle.std.proofs.Common.{◌≡◌, ℕ, true, false, List, [], Option, refl, sym, subst, is_some, ◌∙◌}
 use Rattle.std.specs.Prelude.{Result, Ok, Err, IsErr}
 use Rattle.std.proofs.lemmas.Result.{on_ok_weaker, on_err_weaker}
+use Rattle.dsql_engine_laws.specs.driver.Kinds.{is_connect}
 use Rattle.dsql_engine_laws.specs.driver.Wires.{WireTold, FleetTold}
 use Rattle.dsql_engine_laws.specs.driver.declared.wire.Fleet.{Ghosts}
+use Rattle.dsql_engine_laws.specs.journal.declared.entry.Permit.{Permit}
 use Rattle.dsql_engine_laws.specs.history.declared.event.Event.{Event}
 use Rattle.dsql_engine_laws.specs.history.Legal.{Legal}
+use Rattle.dsql_engine_laws.specs.wire.Calling.{WantsConnect}
 use Rattle.dsql_engine_laws.specs.wire.Journaled.{Journaled}
-use Rattle.dsql_run_wires.specs.Plans.{Made}
-use Rattle.dsql_run_wires.specs.Stopped.{HearsAtMost, RecordsAtMost}
+use Rattle.dsql_run_wires.specs.Asked.{LacksMemory}
+use Rattle.dsql_run_wires.specs.Made.{Made}
+use Rattle.dsql_run_wires.specs.Stopped.{HearsAtMost, RecordsAtMost, TakesAnyAnswer}
 use Rattle.dsql_run_wires.specs.Told.{FleetTells, SameAbility, fleet_told}
-use Rattle.dsql_run_wires.specs.WiresFit.{KeepsFit, KeepsPlans, SameWires, WiresFit}
-use Rattle.dsql_run_wires.proofs.Stopped.{fleet_unasked, nothing_untaken, stops_after}
+use Rattle.dsql_run_wires.specs.WiresFit.{KeepsFit, KeepsPlans, SameWires, WiresFit, slot}
+use Rattle.dsql_run_wires.proofs.Stopped.{call_lacking, connect_lacking, fleet_unasked, nothing_untaken, stops_after}
 use Rattle.dsql_run_wires.proofs.Telling.{tells_none, tells_then}
 use Rattle.dsql_run_player.specs.declared.halt.Halt.{Halt}
 use Rattle.dsql_run_player.specs.Carried.{HearsNothing, KeepsRun, KeepsRunPlanning, KeepsWires}
@@ -45,7 +49,7 @@ run_after fleet heard result before after old mid new slots now same r =
     run_then [] fleet heard result before before after old mid new slots slots now
     (tells_none heard (fleet.told before) old.past mid.past slots slots same.told (plans_unheard heard old.past mid.past slots same)) (able_same fleet before) r
 
--- A part that has to stop keeps the run if the wires and the fleet record at most one answer more.
+-- A part that has to stop keeps the run if the wires and the fleet record at most one answer or want more.
 pub run_stops : {A F W : Type 0} (plans : List Made) (fleet : Ghosts F W) (heard : W → Option WireTold) (result : Result A Halt) (before after : F) (old new : Playing) (slots now : List (Option (Journaled W)))
     → IsErr result → RecordsAtMost heard plans (fleet.told before) (fleet.told after) old.past new.past slots now → SameAbility fleet before after → Legal new.past
     → KeepsRunPlanning plans fleet heard result before after old new slots now
@@ -59,7 +63,7 @@ pub run_stops_there : {A F W : Type 0} (plans : List Made) (fleet : Ghosts F W) 
 run_stops_there plans fleet heard result before after old new slots now err same told able legal =
     run_stops plans fleet heard result before after old new slots now err (subst (λ (H : List Event). RecordsAtMost heard plans (fleet.told before) (fleet.told after) old.past H slots now) (sym same) told) able legal
 
--- A part that has to stop and asks the fleet for nothing keeps the run if the wires hear at most one answer more.
+-- A part that has to stop and asks the fleet for nothing keeps the run if the wires have at most one answer or want.
 pub run_stops_on : {A F W : Type 0} (plans : List Made) (fleet : Ghosts F W) (heard : W → Option WireTold) (result : Result A Halt) (at : F) (old new : Playing) (slots now : List (Option (Journaled W)))
     → IsErr result → WiresFit heard (is_some (fleet.told at)) old.past slots → HearsAtMost heard old.past new.past slots now → Legal new.past → KeepsRunPlanning plans fleet heard result at at old new slots now
 run_stops_on plans fleet heard result at old new slots now err fit hears legal =
@@ -79,6 +83,22 @@ run_unasked plans fleet heard result before after p slots now err fit same wires
     run_stops plans fleet heard result before after p p slots now err
     (subst (λ (told : Option FleetTold). RecordsAtMost heard plans (fleet.told before) told p.past p.past slots now) (sym same)
     (fleet_unasked heard plans (fleet.told before) p.past p.past slots now fit (nothing_untaken heard p.past slots now wires)))
+    able legal
+
+-- So does a part in which memory was wanting for a call on a wire.
+pub run_lacks : {A F W : Type 0} (fleet : Ghosts F W) (heard : W → Option WireTold) (result : Result A Halt) (at : F) (permit : Permit) (p : Playing) (slots now : List (Option (Journaled W)))
+    → IsErr result → WiresFit heard (is_some (fleet.told at)) p.past slots → LacksMemory heard permit slots now → is_connect permit.call ≡ false → TakesAnyAnswer p.past permit → Legal p.past
+    → KeepsRun fleet heard result at at p p slots now
+run_lacks fleet heard result at permit p slots now err fit lacks opens due legal =
+    run_stops_on [] fleet heard result at p p slots now err fit (call_lacking heard (is_some (fleet.told at)) permit p.past slots now fit lacks opens due) legal
+
+-- So does a part in which memory was wanting for a Connect.
+pub run_unconnected : {A F W : Type 0} (fleet : Ghosts F W) (heard : W → Option WireTold) (result : Result A Halt) (before after : F) (permit : Permit) (p : Playing) (slots now : List (Option (Journaled W)))
+    → IsErr result → WiresFit heard (is_some (fleet.told before)) p.past slots → ((c : ℕ) → slot now c ≡ slot slots c) → WantsConnect permit.conn (fleet.told before) (fleet.told after)
+    → is_connect permit.call ≡ true → TakesAnyAnswer p.past permit → SameAbility fleet before after → Legal p.past → KeepsRun fleet heard result before after p p slots now
+run_unconnected fleet heard result before after permit p slots now err fit same wants opens due able legal =
+    run_stops [] fleet heard result before after p p slots now err
+    (connect_lacking heard permit p.past slots now (fleet.told before) (fleet.told after) fit same wants opens due)
     able legal
 
 -- If the fleet has nothing to record, only the wires need to fit.

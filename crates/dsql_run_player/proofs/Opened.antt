@@ -1,7 +1,7 @@
 -- The layer opened a connection. The argument puts the new wire in its slot and shows that the wires and the
 -- fleet fit the new history.
 use Rattle.std.proofs.Common.{◌≡◌, ◌≢◌, ℕ, Bool, true, List, [], ◌∷◌, ◌++◌, Option, is_some, refl, sym, subst}
-use Rattle.std.specs.Prelude.{IfSome, Result, Ok, Err, OnOk, OnErr}
+use Rattle.std.specs.Prelude.{Result, Ok, Err, OnOk, OnErr}
 use Rattle.std.specs.List.{list_all}
 use Rattle.dsql_engine_laws.specs.driver.Kinds.{is_connect}
 use Rattle.dsql_engine_laws.specs.driver.Wires.{WireTold, FleetTold, connected_after}
@@ -16,7 +16,8 @@ use Rattle.dsql_engine_laws.specs.wire.Journaled.{Journaled}
 use Rattle.dsql_run_wires.specs.Asked.{Answers, Connects}
 use Rattle.dsql_run_wires.specs.Stopped.{RecordsAtMost}
 use Rattle.dsql_run_wires.specs.Told.{FleetTells, SameAbility, hears_nothing}
-use Rattle.dsql_run_wires.specs.WiresFit.{OpensWire, WiresFit, slot}
+use Rattle.dsql_run_wires.specs.Made.{no_aside}
+use Rattle.dsql_run_wires.specs.WiresFit.{OpensWire, RecordsAside, WiresFit, slot}
 use Rattle.dsql_run_wires.proofs.Asking.{connect_fits, connected_fits, connected_tells}
 use Rattle.dsql_run_wires.proofs.Stopped.{connect_untaken}
 use Rattle.dsql_run_player.specs.declared.halt.Halt.{Halt}
@@ -35,7 +36,7 @@ pub record AsksFleet {F W : Type 0} (fleet : Ghosts F W) (heard : W → Option W
   pub answers : Answers permit [] e
   pub others : (c : ℕ) → c ≢ permit.conn → slot now c ≡ slot slots c
   pub wire : OpensWire heard (is_some (fleet.told before)) e (slot now permit.conn)
-  pub unplanned : IfSome (slot now permit.conn) (λ w. IfSome (heard w.wire) (λ told. told.plans ≡ []))
+  pub unplanned : RecordsAside heard no_aside (slot now permit.conn)
   pub told : fleet.told after ≡ connected_after permit.conn e.answer (fleet.told before)
   pub able : SameAbility fleet before after
 

@@ -18,7 +18,7 @@ use Rattle.dsql_engine_laws.specs.follows.Moments.{Moment}
 use Rattle.dsql_engine_laws.specs.follows.Turns.{is_turn_of}
 use Rattle.dsql_run_wires.specs.Seats.{seat}
 use Rattle.dsql_engine_laws.specs.wire.Journaled.{Journaled}
-use Rattle.dsql_run_wires.specs.Plans.{Made}
+use Rattle.dsql_run_wires.specs.Made.{Made}
 use Rattle.dsql_run_wires.specs.Stopped.{HearsAtMost}
 use Rattle.dsql_run_wires.specs.Told.{fleet_told}
 use Rattle.dsql_run_wires.specs.WiresFit.{KeepsFit, KeepsPlans}

@@ -117,7 +117,7 @@ module _ (permit : Permit) (e : Entry) (p after : Playing) (it : IsToMake p perm
 -- The first of the layer's own calls is to be made.
 
 -- Holds if a call is due, and this is its permit.
-record IsDue (past : List Event) (due : Option ℕ) (permit : Permit) : Type 0 where
+record TakesAnyAnswer (past : List Event) (due : Option ℕ) (permit : Permit) : Type 0 where
   first : due ≡ Some permit.conn
   leave : chore_permit past permit.conn ≡ Some permit
 
@@ -125,7 +125,7 @@ sent_of : (leave : Option Permit) (permit : Permit) → option_map Send leave �
 sent_of None permit h = absurd cc
 sent_of (Some q) permit h = cc
 
-due_sent : (past : List Event) (due : Option ℕ) (permit : Permit) → Legal past → chore_next past due ≡ Some (Send permit) → IsDue past due permit
+due_sent : (past : List Event) (due : Option ℕ) (permit : Permit) → Legal past → chore_next past due ≡ Some (Send permit) → TakesAnyAnswer past due permit
 due_sent past None permit legal h = absurd cc
 due_sent past (Some c) permit legal h =
     let is : chore_permit past c ≡ Some permit = sent_of (chore_permit past c) permit h in
@@ -161,7 +161,7 @@ module _ (old mid : Playing) (permit : Permit) (ready : IsReady old) (same : Sam
 
   pub first_to_make : mid.chore ≡ chore_due old.past → length old.past < most_events → chore_next old.past (chore_due old.past) ≡ Some (Send permit) → IsToMake mid permit
   first_to_make chore room next =
-      let due : IsDue old.past (chore_due old.past) permit = due_sent old.past (chore_due old.past) permit ready.legal next in
+      let due : TakesAnyAnswer old.past (chore_due old.past) permit = due_sent old.past (chore_due old.past) permit ready.legal next in
       record {
         ready = subst IsReady (sym freed) ready;
         under_way = chore ∙ due.first;

@@ -10,7 +10,7 @@ use Rattle.dsql_engine_laws.specs.follows.Moments.{Moment, met, at_end}
 use Rattle.dsql_engine_laws.specs.follows.Sentences.{Part, after_part, enters_at_once, runs_in_turn, runs_on, sets_at_once}
 use Rattle.dsql_engine_laws.specs.follows.Follows.{MakesSteps, FollowsLine, FollowsEnd, ends_in_turn}
 use Rattle.dsql_engine_laws.specs.wire.Journaled.{Journaled}
-use Rattle.dsql_run_wires.specs.Plans.{Made}
+use Rattle.dsql_run_wires.specs.Made.{Made}
 use Rattle.dsql_run_wires.specs.Stopped.{HearsAtMost, RecordsAtMost}
 use Rattle.dsql_run_wires.specs.Told.{fleet_told, FleetTells, SameAbility}
 use Rattle.dsql_run_wires.specs.WiresFit.{KeepsFit, KeepsPlans, WiresFit}
@@ -19,7 +19,8 @@ use Rattle.dsql_run_player.specs.Playing.{Playing, IsAt, IsReady}
 
 -- Holds if a part of a run is carried out, in which these faults are planned. The fleet and the wires record the new
 -- history and these plans, and the wires fit the history. If the part can't be carried out, they record the new history
--- with at most one more answer, which couldn't be taken in. Then either all of the plans were made or none.
+-- with at most one answer or want more. That answer couldn't be taken in. Then either all of the plans were made or
+-- none.
 pub record KeepsRunPlanning {A F W : Type 0} (plans : List Made) (fleet : Ghosts F W) (heard : W
     → Option WireTold) (result : Result A Halt) (before after : F) (old new : Playing)
     (slots now : List (Option (Journaled W))) : Type 0 where
@@ -38,8 +39,8 @@ KeepsRun fleet heard result before after old new slots now =
     KeepsRunPlanning [] fleet heard result before after old new slots now
 
 -- Holds of a part of a run in which no connection is opened or shut. Its wires fit the new history, and the fleet has
--- nothing to record of it. If the part can't be carried out, the wires heard at most one more answer, which couldn't be
--- taken in.
+-- nothing to record of it. If the part can't be carried out, the wires have at most one answer or want more. That
+-- answer couldn't be taken in.
 pub record KeepsWires {A W : Type 0} (heard : W
     → Option WireTold) (result : Result A Halt) (old new : Playing)
     (before after : List (Option (Journaled W))) : Type 0 where

@@ -5,7 +5,7 @@ use Rattle.dsql_engine_laws.specs.follows.declared.line.Line.{Line}
 use Rattle.dsql_engine_laws.specs.follows.declared.line.Line.TheVariants.{Fault}
 use Rattle.dsql_engine_laws.specs.follows.Sentences.{Part}
 use Rattle.dsql_engine_laws.specs.follows.Follows.{told}
-use Rattle.dsql_run_wires.specs.Plans.{Made}
+use Rattle.dsql_run_wires.specs.Made.{Made}
 use Rattle.dsql_run_wires.specs.WiresFit.{made_at}
 
 -- Returns what a line plans after this history: the fault of a fault line, and nothing for other lines.

@@ -10,12 +10,11 @@ use Rattle.dsql_engine.specs.Core.{Core}
 use Rattle.dsql_engine_laws.specs.going.Stepping.{GoesOnOrRests}
 use Rattle.dsql_run_wires.specs.Seats.{seat}
 use Rattle.dsql_run_wires.specs.Stopped.{HearsAtMost}
-use Rattle.dsql_run_wires.proofs.Stopped.{nothing_untaken}
 use Rattle.dsql_engine_laws.specs.laws_steps.Groups.{after_heard, most_events}
 use Rattle.dsql_run_player.specs.Playing.{Playing}
 use Rattle.dsql_run_player.specs.Stepping.{leave_of}
 use Rattle.dsql_run_player.proofs.Answering.{HasLeave, leave_at, wire_takes}
-use Rattle.dsql_run_player.proofs.Asked.{Asks, Given, answer_heard, asks_course, asks_grows, asks_hears, asks_plans, asks_ready, asks_told, asks_wires, call_untaken, given_again, had_none}
+use Rattle.dsql_run_player.proofs.Asked.{Asks, Given, answer_heard, asks_course, asks_grows, asks_hears, asks_plans, asks_ready, asks_told, asks_wires, call_lacks, call_untaken, given_again, had_none}
 use Rattle.dsql_run_player.proofs.Fitting.{stops_there, stops_unheard}
 use Rattle.dsql_run_player.proofs.Hearing.{hears_none}
 use Rattle.dsql_run_player.proofs.player.Player.make_call.Goals as goal
@@ -55,13 +54,18 @@ perform-requires g c =
 
 pub returns-in_err-heard : goal.returns-in_err-heard
 returns-in_err-heard g c =
+    let old = c.args.self.now in
     let past = ap (λ (p : Playing). p.past) c.self.view_is in
+    let seen = ap (λ (p : Playing). (seat p.seats c.args.client).permit) c.self.view_is in
+    let has : HasLeave old c.args.client c.in_ok-permit.permit = leave_at old c.args.client c.in_ok-permit.permit c.requires.ready (sym seen ∙ (sym c.take_leave.ensures.permit ∙ (c.in-Some.is ∙ ap (λ (l : Permit). Some l) (sym c.in_ok-permit.ensures.ok)))) in
+    let stops : HearsAtMost g.W.Wire.told old.past old.past c.args.wires.now c.perform.new.self =
+    call_lacks g.W.Wire.told old c.args.client c.in_ok-permit.permit c.args.wires.now c.perform.new.self c.requires.ready has c.requires.wires c.in_err-heard.ensures.err in
     let p = err_from_is_err_and c.from_residual-in_err-heard.result c.from_residual-in_err-heard.ensures.1 in
     record {
       hears = rw p.1 tt;
       grows = rw p.1 tt;
       course = rw p.1 tt;
-      run = record { ready = rw p.1 tt; wires = rw p.1 tt; plans = rw p.1 tt; told = rw p.1 tt; stops = rw p.1 (stops_there g.W.Wire.told c.args.self.now.past c.self.inside.engine.past c.args.wires.now c.perform.new.self past (nothing_untaken g.W.Wire.told c.args.self.now.past c.args.wires.now c.perform.new.self c.in_err-heard.ensures.err)); legal = subst (λ (H : List Event). Legal H) (sym past) c.requires.ready.legal };
+      run = record { ready = rw p.1 tt; wires = rw p.1 tt; plans = rw p.1 tt; told = rw p.1 tt; stops = rw p.1 (stops_there g.W.Wire.told old.past c.self.inside.engine.past c.args.wires.now c.perform.new.self past stops); legal = subst (λ (H : List Event). Legal H) (sym past) c.requires.ready.legal };
       fails = record { same = rw p.1 past; memory = rw p.1 p.2 };
       trimmed = ap (λ (q : Playing). q.trimmed) c.self.view_is;
     }
