@@ -15,9 +15,10 @@ use Rattle.dsql_run_outcome.specs.Runs.{ran_out, no_write_failed, is_write_fault
 pub none_told : (t : Option FleetTold) (caps : Caps) → with_told [] t (Run 1 caps ∷ []) ≡ t
 none_told None caps = refl
 none_told (Some told) caps =
-    ap (λ cs. Some (record { connects = cs; plans = told.plans ++ []; retired = told.retired ++ [] })) (append-nil told.connects)
-    ∙ ap (λ ps. Some (record { connects = told.connects; plans = ps; retired = told.retired ++ [] })) (append-nil told.plans)
-    ∙ ap (λ rs. Some (record { connects = told.connects; plans = told.plans; retired = rs })) (append-nil told.retired)
+    ap (λ cs. Some (record { connects = cs; plans = told.plans ++ []; retired = told.retired ++ []; wanted = told.wanted ++ [] })) (append-nil told.connects)
+    ∙ ap (λ ps. Some (record { connects = told.connects; plans = ps; retired = told.retired ++ []; wanted = told.wanted ++ [] })) (append-nil told.plans)
+    ∙ ap (λ rs. Some (record told { retired = rs; wanted = told.wanted ++ [] })) (append-nil told.retired)
+    ∙ ap (λ ns. Some (record told { wanted = ns })) (append-nil told.wanted)
 
 read_ran : (r : Result (Unit {0}) Stop) → no_read_failed r ≡ true → ran_out r ≡ true
 read_ran (Ok done) h = refl

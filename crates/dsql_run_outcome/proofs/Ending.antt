@@ -1,6 +1,6 @@
 -- What the history of a run follows if the run was ended, and where it was cut otherwise. The argument joins
 -- what stopped the lines, what stopped the end, and the last stop.
-use Rattle.std.proofs.Common.{◌≡◌, ◌⊎◌, ℕ, ◌≤◌, Bool, true, false, List, Option, None, length, refl, ap, sym, subst, ◌∙◌, inl, inr}
+use Rattle.std.proofs.Common.{◌≡◌, ◌⊎◌, ℕ, ◌≤◌, Bool, true, false, List, ◌++◌, Option, length, refl, ap, sym, subst, ◌∙◌, inl, inr}
 use Rattle.std.specs.Prelude.{reverse, Result, Ok, Err}
 use Rattle.dsql_history.specs.driver.declared.caps.Caps.{Caps}
 use Rattle.dsql_history.specs.driver.Wires.{FleetTold}
@@ -9,7 +9,8 @@ use Rattle.dsql_history.specs.Readers.Journals.{journal}
 use Rattle.dsql_follows.specs.Moments.{Moment}
 use Rattle.dsql_follows.specs.Follows.{after, told}
 use Rattle.dsql_run_wires.specs.Extends.{Extends}
-use Rattle.dsql_run_wires.specs.Stopped.{GivesAllBack, GotAllBack, RecordsJournal, with_answer}
+use Rattle.dsql_run_wires.specs.Made.{Made}
+use Rattle.dsql_run_wires.specs.Stopped.{GivesAllBack, GotAllBack, NoSurplus, RecordsJournal, wants_of, with_answer}
 use Rattle.dsql_run_wires.specs.Told.{FleetTellsOn, retired_from, with_told}
 use Rattle.dsql_run_wires.specs.WiresFit.{is_wired, slot}
 use Rattle.dsql_run_wires.proofs.GivenBack.{got_all_back, none_to_give}
@@ -115,20 +116,21 @@ ended_short played ended final before left k asked run rest past w mid lent told
         record {
           made = plans_made run l.parts;
           stops = end_planning run l.lines l.parts rest.past past (l.follows ran) (e.stops ran out (after run l.parts) (l.at ran));
-          untaken = leaves.untaken;
+          surplus = leaves.surplus;
           may = leaves.may;
           records = leaves.back (plans_made run l.parts) lent.first (l.told ran);
         }
     by false short =
         let s = l.short short in
-        let recorded : List Event = with_answer s.untaken rest.past in
+        let made : List Made = wants_of s.surplus ++ s.made in
+        let recorded : List Event = with_answer s.surplus rest.past in
         subst (λ h. StopsAsking run l.lines h lent.first told_after) (sym (e.stays short))
         (record {
           made = s.made;
           stops = s.stops;
-          untaken = s.untaken;
+          surplus = s.surplus;
           may = s.may;
-          records = subst (λ told. GotAllBack s.made lent.first told recorded) (sym (a.given_back short)) (got_all_back lent.heard s.made lent.first lent.now recorded lent.slots s.tells s.wires (a.exact short));
+          records = subst (λ told. GotAllBack made lent.first told recorded) (sym (a.given_back short)) (got_all_back lent.heard made lent.first lent.now recorded lent.slots s.tells s.wires (a.exact short));
         })
 
 either_short : {W : Type 0} (played ended final : Result (Unit {0}) Stop) (before left : Option (List ℕ)) (k : ℕ) (asked : Option Caps) (run : Event) (rest : Playing) (past : List Event) (w mid : Option (List ℕ)) (lent : Lent W)
@@ -142,7 +144,7 @@ either_short played ended final before left k asked run rest past w mid lent tol
         record {
           made = plans_made run all.0.played.parts;
           stops = all_planning run l.lines past all.0;
-          untaken = None;
+          surplus = NoSurplus;
           may = tt;
           records = none_to_give (plans_made run all.0.played.parts) lent.first told_after past
               (subst (λ parts. told_after ≡ with_told (plans_made run parts) lent.first past) (sym all.1)

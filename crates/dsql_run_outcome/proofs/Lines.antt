@@ -1,6 +1,6 @@
 -- The lines of a script that were played. The argument keeps what was carried out so far from line to line, and
 -- closes it at each way in which the lines can stop.
-use Rattle.std.proofs.Common.{◌≡◌, ℕ, ◌+◌, Bool, true, false, List, [], ◌∷◌, ◌++◌, length, Option, Some, None, refl, ap, sym, subst, ◌∙◌, arith, inl, inr}
+use Rattle.std.proofs.Common.{◌≡◌, ℕ, ◌+◌, Bool, true, false, List, [], ◌∷◌, ◌++◌, length, Option, Some, None, refl, ap, sym, subst, ◌∙◌, append_assoc, arith, inl, inr}
 use Rattle.std.specs.Prelude.{reverse, is_some, IfErr, IfOk, IfSome, Result, Ok, Err}
 use Rattle.dsql_history.specs.driver.declared.caps.Caps.{Caps}
 use Rattle.dsql_history.specs.driver.Wires.{FleetTold}
@@ -12,8 +12,8 @@ use Rattle.dsql_follows.specs.Sentences.{Part}
 use Rattle.dsql_follows.specs.Follows.{after, told}
 use Rattle.dsql_run_player.specs.Carried.{Carries, StopsInLine, part}
 use Rattle.dsql_wire.specs.Journaled.{Journaled}
-use Rattle.dsql_run_wires.specs.Plans.{Made}
-use Rattle.dsql_run_wires.specs.Stopped.{RecordsAtMost}
+use Rattle.dsql_run_wires.specs.Made.{Made}
+use Rattle.dsql_run_wires.specs.Stopped.{NoSurplus, RecordsAtMost, wants_of, with_answer}
 use Rattle.dsql_run_wires.specs.WiresFit.{WiresFit}
 use Rattle.dsql_run_player.specs.Planned.{plans_made, plans_of}
 use Rattle.dsql_run_player.specs.Playing.{Playing, IsAt}
@@ -104,7 +104,7 @@ rest_telling : {W : Type 0} (caps : Caps) (lines : List Line) (parts : List Part
 rest_telling caps lines parts past lent f tells fit = record {
   made = plans_made (Run 1 caps) parts;
   stops = rest_planning caps lines parts past f;
-  untaken = None;
+  surplus = NoSurplus;
   may = tt;
   tells = tells;
   wires = fit;
@@ -178,18 +178,22 @@ first_stops stop first before reader left rest k asked skipped caps p w now lent
       cut = λ is. inr (record { begun = told_blank (Run 1 caps) (reverse skipped); skipped = blank_is_skipped skipped h.silent; written = stops });
     }
 
--- If the run stopped in a line, the fleet and the wires recorded it up to then, and at most one answer more.
+-- If the run stopped in a line, the fleet and the wires recorded it up to then, and at most one answer or want more.
 stops_telling : {W : Type 0} (run : Event) (lines : List Line) (parts : List Part) (line : Line) (old new : List Event) (lent : Lent W) (now : Option FleetTold) (slots : List (Option (Journaled W))) → FollowsSoFar run lines parts old
     → TellsOf lent (plans_made run parts) old → StopsInLine (after run parts) line old new → RecordsAtMost lent.heard (plans_of line old) lent.now now old new lent.slots slots
     → StopsTelling run (lines ++ line ∷ []) new (later lent now slots)
-stops_telling run lines parts line old new lent now slots f tells stops asked = record {
-  made = asked.planned ++ plans_made run parts;
-  stops = line_stops_planning run lines parts line old new asked.planned f stops asked.which;
-  untaken = asked.untaken;
-  may = asked.may;
-  tells = asked.tells.told (plans_made run parts) lent.first tells;
-  wires = asked.wires;
-}
+stops_telling run lines parts line old new lent now slots f tells stops asked =
+    let wants : List Made = wants_of asked.surplus in
+    let before : List Made = plans_made run parts in
+    record {
+      made = asked.planned ++ before;
+      stops = line_stops_planning run lines parts line old new asked.planned f stops asked.which;
+      surplus = asked.surplus;
+      may = asked.may;
+      tells = subst (λ (made : List Made). TellsOf (later lent now slots) made (with_answer asked.surplus new)) (append_assoc wants asked.planned before)
+          (asked.tells.told before lent.first tells);
+      wires = asked.wires;
+    }
 
 -- If a line couldn't be carried out or shown, it is the last line that was played.
 pub line_ends : {W : Type 0} (stop : Stop) (next : Option ScriptLine) (before : Option (List ℕ)) (reader : Position) (left rest : Option (List ℕ)) (k : ℕ) (asked : Option Caps) (run : Event) (line : ScriptLine) (old new : Playing)

@@ -2,14 +2,13 @@
 use Rattle.std.specs.Prelude.{◌≡◌, ◌⊎◌, List, [], ◌∷◌, ◌++◌, reverse, Option, is_some}
 use Rattle.dsql_history.specs.driver.Wires.{WireTold, FleetTold}
 use Rattle.dsql_history.specs.driver.declared.wire.Fleet.{Ghosts}
-use Rattle.dsql_history.specs.journal.declared.entry.Entry.{Entry}
 use Rattle.dsql_wire.specs.Journaled.{Journaled}
 use Rattle.dsql_history.specs.declared.event.Event.{Event}
 use Rattle.dsql_follows.specs.declared.line.Line.{Line}
 use Rattle.dsql_follows.specs.Sentences.{Part}
 use Rattle.dsql_follows.specs.Follows.{told}
-use Rattle.dsql_run_wires.specs.Plans.{Made}
-use Rattle.dsql_run_wires.specs.Stopped.{GotAllBack, MayCome, with_answer}
+use Rattle.dsql_run_wires.specs.Made.{Made}
+use Rattle.dsql_run_wires.specs.Stopped.{GotAllBack, MayCome, Surplus, wants_of, with_answer}
 use Rattle.dsql_run_wires.specs.Told.{TellsJust}
 use Rattle.dsql_run_wires.specs.WiresFit.{WiresFit}
 use Rattle.dsql_run_player.specs.Planned.{plans_of, plans_made}
@@ -30,7 +29,7 @@ lent fleet heard first now slots =
 abbrev pub later : {W : Type 0} → Lent W → Option FleetTold → List (Option (Journaled W)) → Lent W
 later lent now slots = record lent { now = now; slots = slots }
 
--- Holds if the fleet and the wires record exactly this history and these plans.
+-- Holds if the fleet and the wires record exactly this history and these plans and wants.
 abbrev pub TellsOf : {W : Type 0} → Lent W → List Made → List Event → Type 0
 TellsOf lent made past = TellsJust lent.heard made lent.first lent.now past lent.slots
 
@@ -49,22 +48,24 @@ pub record StopsPlanning (run : Event) (lines : List Line) (past : List Event) (
   pub all : made ≡ last ++ plans_made run short.parts
 
 -- Holds if a run had to stop in its lines. The fleet and the wires record exactly the run up to then and these faults,
--- with at most one more answer. That answer may come next by every rule, but it couldn't be taken in.
+-- with at most one of two things more. One is an answer that may come next by every rule, but couldn't be taken in. The
+-- other is the want of a call that was due.
 pub record StopsTelling {W : Type 0} (run : Event) (lines : List Line) (past : List Event)
     (lent : Lent W) : Type 0 where
   pub made : List Made
   pub stops : StopsPlanning run lines past made
-  pub untaken : Option Entry
-  pub may : MayCome past untaken
-  pub tells : TellsOf lent made (with_answer untaken past)
-  pub wires : WiresFit lent.heard (is_some lent.now) (with_answer untaken past) lent.slots
+  pub surplus : Surplus
+  pub may : MayCome past surplus
+  pub tells : TellsOf lent (wants_of surplus ++ made) (with_answer surplus past)
+  pub wires : WiresFit lent.heard (is_some lent.now) (with_answer surplus past) lent.slots
 
--- Holds if a run had to stop, and the fleet was given back every wire. It records exactly the run and these wires, with
--- at most one more answer. That answer may come next by every rule, but it couldn't be taken in.
+-- Holds if a run had to stop, and the fleet was given back every wire. It records exactly the run, these faults and
+-- these wires, with at most one of two things more. One is an answer that may come next by every rule, but couldn't be
+-- taken in. The other is the want of a call that was due.
 pub record StopsAsking (run : Event) (lines : List Line) (past : List Event)
     (before after : Option FleetTold) : Type 0 where
   pub made : List Made
   pub stops : StopsPlanning run lines past made
-  pub untaken : Option Entry
-  pub may : MayCome past untaken
-  pub records : GotAllBack made before after (with_answer untaken past)
+  pub surplus : Surplus
+  pub may : MayCome past surplus
+  pub records : GotAllBack (wants_of surplus ++ made) before after (with_answer surplus past)

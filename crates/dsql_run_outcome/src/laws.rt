@@ -16,7 +16,7 @@ ghost use Rattle.dsql_script_source.specs.Stops.{no_read_failed};
 ghost use Rattle.dsql_script_source.specs.declared.stop.Stop.{Stop as Stopped};
 ghost use Rattle.dsql_script_source.specs.declared.stop.Stop.TheVariants.{Read, Write, Refused, Full};
 ghost use Rattle.dsql_run_wires.specs.Extends.{Extends};
-ghost use Rattle.dsql_run_wires.specs.Plans.{Made};
+ghost use Rattle.dsql_run_wires.specs.Made.{Made};
 ghost use Rattle.dsql_run_player.specs.Carried.{Carries, StopsInEnd, StopsInLine, part};
 ghost use Rattle.dsql_run_player.specs.Planned.{plans_made, plans_of};
 ghost use Rattle.dsql_run_player.specs.Playing.{Playing};
