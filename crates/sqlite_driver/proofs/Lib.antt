@@ -1,4 +1,3 @@
-pub mod Crossing
 pub mod HolderLemmas
 pub mod RowLemmas
 pub mod ServedLemmas

@@ -1,6 +1,0 @@
-use denote.Param.Send.{sendable}
-use Rattle.sqlite_driver.proofs.Crossing.{SqliteWire-send}
-use Rattle.sqlite_play.proofs.main.Goals as goal
-
-pub sqlrun-status-requires-send-F-Wire : goal.sqlrun-status-requires-send-F-Wire
-sqlrun-status-requires-send-F-Wire c = SqliteWire-send _ (search sendable depth 20)
