@@ -1,3 +1,4 @@
+pub mod ConnectionLemmas
 pub mod HolderLemmas
 pub mod RowLemmas
 pub mod ServedLemmas
