@@ -1,2 +1,4 @@
+pub mod CursorLemmas
 pub mod NumberLemmas
+pub mod SessionLemmas
 pub mod WordLemmas

@@ -3,6 +3,8 @@
 //! output.
 #![tactic(auto)]
 
+mod answers;
+mod cursors;
 mod fleet;
 mod table;
 mod wire;

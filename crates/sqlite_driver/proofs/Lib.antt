@@ -1,4 +1,3 @@
-pub mod ConnectionLemmas
 pub mod HolderLemmas
 pub mod RowLemmas
 pub mod ServedLemmas

@@ -1,29 +1,36 @@
-ghost use Rattle.std.specs.Prelude.{◌≡◌, None, true, false, codes, IfOk, OnOk};
-ghost use Rattle.sqlite_driver.specs.Connection.{Compiles, Finds, Issues, RollsBack, Runs, in_transaction};
-ghost use Rattle.sqlite_driver.specs.Holder.{MayHold, is_guarded, is_held_by, is_held_by_other};
+ghost use Rattle.std.specs.Prelude.{◌≡◌, None, true, false, IfOk, OnOk};
+ghost use Rattle.sqlite_driver.specs.Holder.{is_held_by, is_held_by_other};
 
 use crate::connection::SqliteConnection;
 use crate::failure::Failure;
 use crate::statements::Executed;
-use dsql_driver_session::ResultSet;
 use dsql_value::{Memory, Param};
 use sqlite::{Connection, File, FileStore};
+use sqlite_session::ResultSet;
 use std::alloc::Global;
+use std::marker::Model;
 
 /// One SQLite database with the one connection to it, which all wires share. A wire holds the database from
 /// the begin of its transaction to the end. If a failure ends the transaction, the wire holds the database on until it
-/// commits or rolls back.
+/// commits or rolls back. Contracts see which wire holds it.
 #[derive(Drop)]
 pub(crate) struct Database {
     connection: SqliteConnection,
     holder: Option<u32>,
-    ghost guarded: { is_guarded connection holder ≡ true },
+}
+
+impl Model for Database {
+    ghost use Rattle.std.specs.Prelude.{ℕ, Option};
+
+    ghost Value = { Option ℕ };
+
+    ghost view = { λ d. d.holder };
 }
 
 impl Database {
     /// Returns an empty database in memory, which no wire holds.
     pub(crate) fn in_memory(alloc: Global) -> Result<Database, Memory>
-        ensures { IfOk result (λ database. database.holder ≡ None) }
+        ensures { IfOk result (λ database. database ≡ None) }
     {
         let connection = Connection::open_in_memory(alloc)?;
         Ok(Database {
@@ -32,10 +39,9 @@ impl Database {
         })
     }
 
-    /// Returns the database of a file, which no wire holds, from its connection in autocommit.
+    /// Returns the database of a file, which no wire holds.
     pub(crate) fn in_file(connection: Connection<FileStore<File>>) -> Database
-        requires { connection.in_transaction ≡ false }
-        ensures { result.holder ≡ None }
+        ensures { result ≡ None }
     {
         Database {
             connection: SqliteConnection::File(connection),
@@ -45,7 +51,7 @@ impl Database {
 
     /// Returns true if this wire holds the database.
     fn is_held_by(&self, who: u32) -> bool
-        ensures { result ≡ is_held_by who self.now.holder }
+        ensures { result ≡ is_held_by who self.now }
     {
         match self.holder {
             None => false,
@@ -55,7 +61,7 @@ impl Database {
 
     /// Returns true if another wire than this one holds the database.
     pub(crate) fn is_held_by_other(&self, who: u32) -> bool
-        ensures { result ≡ is_held_by_other who self.now.holder }
+        ensures { result ≡ is_held_by_other who self.now }
     {
         match self.holder {
             None => false,
@@ -65,8 +71,7 @@ impl Database {
 
     /// Compiles a text and returns the number of its inputs.
     pub(crate) fn inputs(&mut self, who: u32, text: &str) -> Result<u16, Failure>
-        ensures compiles { IfOk result (λ inputs. Compiles text.now inputs self.old.connection self.new.connection) }
-        ensures holder { self.new.holder ≡ self.old.holder }
+        ensures { self.new ≡ self.old }
     {
         self.check_usable(who)?;
         self.connection.inputs(text)
@@ -79,14 +84,10 @@ impl Database {
         who: u32,
         text: &str,
         params: &[Param],
-    ) -> Result<Executed, Failure>
-        ensures runs { IfOk result (λ executed. Runs text.now params.now executed
-            self.old.connection self.new.connection) }
-        ensures holds { MayHold who self.old.holder self.new.holder }
-    {
+    ) -> Result<Executed, Failure> {
         self.check_usable(who)?;
         let executed = self.connection.execute(alloc, text, params);
-        self.holder = self.connection.holder_after(who, executed.is_ok(), self.holder);
+        self.settle(who, executed.is_ok());
         executed
     }
 
@@ -97,59 +98,41 @@ impl Database {
         who: u32,
         text: &str,
         params: &[Param],
-    ) -> Result<ResultSet, Failure>
-        ensures finds { IfOk result (λ set. Finds text.now params.now set self.old.connection self.new.connection) }
-        ensures holds { MayHold who self.old.holder self.new.holder }
-    {
+    ) -> Result<ResultSet, Failure> {
         self.check_usable(who)?;
         let set = self.connection.query(alloc, text, params);
-        self.holder = self.connection.holder_after(who, set.is_ok(), self.holder);
+        self.settle(who, set.is_ok());
         set
     }
 
     /// Begins a transaction, with which the wire holds the database.
-    pub(crate) fn begin(&mut self, who: u32) -> Result<(), Failure>
-        ensures begun { OnOk result (Issues (codes "BEGIN") true self.old.connection self.new.connection) }
-        ensures holds { MayHold who self.old.holder self.new.holder }
-    {
+    pub(crate) fn begin(&mut self, who: u32) -> Result<(), Failure> {
         self.check_usable(who)?;
-        let begun = self.connection.begin();
-        self.holder = self.connection.holder_after(who, begun.is_ok(), self.holder);
+        let begun = self.connection.execute_plain("BEGIN");
+        self.settle(who, begun.is_ok());
         begun
     }
 
     /// Commits the wire's transaction. Fails if none is open, or if a failure has ended it.
     pub(crate) fn commit(&mut self, who: u32) -> Result<(), Failure>
-        ensures other { is_held_by_other who self.old.holder ≡ true → self.new ≡ self.old }
-        ensures over { OnOk result (is_held_by who self.new.holder ≡ false) }
-        ensures committed { OnOk result (Issues (codes "COMMIT") true self.old.connection self.new.connection) }
-        ensures holds { MayHold who self.old.holder self.new.holder }
+        ensures other { is_held_by_other who self.old ≡ true → self.new ≡ self.old }
+        ensures over { OnOk result (is_held_by who self.new ≡ false) }
     {
         if !self.is_held_by(who) || self.connection.is_autocommit() {
             let _released = self.release(who);
             return Err(Failure::transaction_state());
         }
-        match self.connection.commit() {
-            Ok(()) => {
-                self.holder = None;
-                Ok(())
-            }
-            Err(failure) => {
-                if self.release(who) {
-                    Err(failure)
-                } else {
-                    Err(Failure::out_of_memory())
-                }
-            }
+        let committed = self.connection.execute_plain("COMMIT");
+        if !self.release(who) {
+            return Err(Failure::out_of_memory());
         }
+        committed
     }
 
     /// Rolls back the wire's transaction. Fails if none is open.
     pub(crate) fn roll_back(&mut self, who: u32) -> Result<(), Failure>
-        ensures other { is_held_by_other who self.old.holder ≡ true → self.new ≡ self.old }
-        ensures over { OnOk result (is_held_by who self.new.holder ≡ false) }
-        ensures undone { OnOk result (RollsBack self.old.connection self.new.connection) }
-        ensures holds { MayHold who self.old.holder self.new.holder }
+        ensures other { is_held_by_other who self.old ≡ true → self.new ≡ self.old }
+        ensures over { OnOk result (is_held_by who self.new ≡ false) }
     {
         if !self.is_held_by(who) {
             return Err(Failure::transaction_state());
@@ -164,18 +147,16 @@ impl Database {
     /// Rolls back the wire's transaction, if one is open. Returns false if the wire holds the database on, because
     /// SQLite couldn't roll back.
     pub(crate) fn release(&mut self, who: u32) -> bool
-        ensures stays { is_held_by who self.old.holder ≡ false → self.new ≡ self.old }
-        ensures other { is_held_by_other who self.old.holder ≡ true → self.new ≡ self.old }
-        ensures over { result ≡ true → is_held_by who self.new.holder ≡ false }
-        ensures undone { result ≡ true → is_held_by who self.old.holder ≡ true
-            → RollsBack self.old.connection self.new.connection }
-        ensures unreleased { result ≡ false → in_transaction self.new.connection ≡ true }
-        ensures holds { MayHold who self.old.holder self.new.holder }
+        ensures other { is_held_by_other who self.old ≡ true → self.new ≡ self.old }
+        ensures over { result ≡ true → is_held_by who self.new ≡ false }
     {
         if !self.is_held_by(who) {
             return true;
         }
-        if !self.connection.roll_back() {
+        if !self.connection.is_autocommit() {
+            let _ = self.connection.execute_plain("ROLLBACK");
+        }
+        if !self.connection.is_autocommit() {
             return false;
         }
         self.holder = None;
@@ -189,6 +170,16 @@ impl Database {
             Err(Failure::transaction_state())
         } else {
             Ok(())
+        }
+    }
+
+    /// Records after a statement of this wire whether its transaction is open. If a failure ended the transaction, the
+    /// wire holds the database on.
+    fn settle(&mut self, who: u32, is_done: bool) {
+        if !self.connection.is_autocommit() {
+            self.holder = Some(who);
+        } else if is_done {
+            self.holder = None;
         }
     }
 }

@@ -1,4 +1,0 @@
-pub mod CursorLemmas
-pub mod LawfulLemmas
-pub mod NumberLemmas
-pub mod SessionLemmas

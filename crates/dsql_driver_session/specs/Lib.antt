@@ -1,4 +1,0 @@
-pub mod Calls
-pub mod Copies
-pub mod Rows
-pub mod Session
