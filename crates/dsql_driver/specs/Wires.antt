@@ -29,8 +29,8 @@ Plan = ℕ × Planned
 abbrev pub PlanMade : Type 0
 PlanMade = ℕ × Plan
 
--- A wire's report: its number, the calls that it heard with their answers, the faults that were planned on it, and the
--- calls that wanted memory, which it answered Memory. Each list stands oldest first.
+-- A wire's report: its number, the calls that it heard with their answers, and the faults that were planned on it. The
+-- calls that it answered Memory stand apart, as those that wanted memory. Each list stands oldest first.
 pub record WireTold : Type 0 where
   pub number : ℕ
   pub calls : List Told
@@ -53,9 +53,9 @@ WirePlanMade = ℕ × WirePlan
 abbrev pub RetiredWire : Type 0
 RetiredWire = ℕ × WireTold
 
--- A fleet's report: the Connects that it heard with their answers, the faults that were planned, the wires that it was
--- given back, and the numbers of the Connects that wanted memory, which it answered Memory. Each list stands oldest
--- first.
+-- A fleet's report: the Connects that it heard with their answers, the faults that were planned, and the wires that it
+-- was given back. The numbers of the Connects that it answered Memory stand apart, as those that wanted memory. Each
+-- list stands oldest first.
 pub record FleetTold : Type 0 where
   pub connects : List Connected
   pub plans : List WirePlanMade

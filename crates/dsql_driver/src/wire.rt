@@ -34,9 +34,9 @@ pub struct Answered {
 
 /// One open connection to a database: Go's `driver.Conn` with its statements, rows and transactions.
 pub trait Wire {
-    /// What the wire reports, if it reports at all: its number, its calls with their answers, the faults that were
-    /// planned on it, and the calls that it answered Memory. Each planned fault stands with the number of calls that
-    /// the wire had heard by then.
+    /// What the wire reports, if it reports at all. It reports its number, its calls with their answers, and the faults
+    /// that were planned on it. The calls that it answered Memory stand apart. Each planned fault stands with the
+    /// number of calls that the wire had heard by then.
     ghost told: { Self → Option WireTold };
     /// How often the wire answered Bad, Fail or Invalid.
     ghost faults: { Self → ℕ };
@@ -75,9 +75,9 @@ pub trait Fleet {
     ghost ability: { Self → Caps };
     /// The capabilities that were asked for last, if any were, and how often capabilities were asked for.
     ghost preferred: { Self → Preferred };
-    /// What the fleet reports, if it reports at all: its Connects with their answers, the planned faults, the wires
-    /// that it was given back, and the Connects that it answered Memory. Each planned fault stands with the number of
-    /// Connects that the fleet had heard by then.
+    /// What the fleet reports, if it reports at all. It reports its Connects with their answers, the planned faults,
+    /// and the wires that it was given back. The Connects that it answered Memory stand apart. Each planned fault
+    /// stands with the number of Connects that the fleet had heard by then.
     ghost told: { Self → Option FleetTold };
     /// How often the fleet refused a Connect as Bad or Fail.
     ghost faults: { Self → ℕ };

@@ -10,14 +10,14 @@ use Rattle.dsql_laws_calls.specs.journal.declared.entry.Owner.{Owner}
 use Rattle.dsql_laws_calls.specs.journal.Kinds.{is_call, number_of}
 use Rattle.dsql_laws_calls.specs.pool.declared.conn.Place.TheVariants.{Lent}
 use Rattle.dsql_laws_calls.specs.history.Rules.Wishes.{wish_as}
-use Rattle.dsql_laws_calls.proofs.laws.Tests.{both, same_itself, same_number}
+use Rattle.dsql_laws_calls.proofs.laws.Tests.{both, same_itself}
 use Rattle.dsql_laws_calls.proofs.laws_work.Rows.{not_true}
 use Rattle.dsql_laws_calls.specs.history.declared.event.Event.{Event}
 use Rattle.dsql_laws_calls.specs.history.declared.work.Scope.TheVariants.{Db, Tx}
 use Rattle.dsql_laws_calls.specs.history.declared.work.Work.{Work}
 use Rattle.dsql_laws_calls.specs.history.declared.work.Work.TheVariants.{Execute, ReadOne, HandOut, Begin, End, Ping, Fetch, Close, Look}
-use Rattle.dsql_laws_calls.specs.history.Readers.Calls.{decided, has_begun_to_send, site}
-use Rattle.dsql_laws_calls.specs.history.Readers.HandedOut.{are_live, are_over, ender, is_late, rows_by}
+use Rattle.dsql_laws_calls.specs.history.Readers.Calls.{decided, site}
+use Rattle.dsql_laws_calls.specs.history.Readers.HandedOut.{are_live, are_over, ender, rows_by}
 use Rattle.dsql_laws_calls.specs.history.Readers.Pool.{home, place}
 use Rattle.dsql_laws_calls.specs.history.Readers.Transactions.{is_begun, is_over, tx_ender}
 use Rattle.dsql_laws_calls.specs.history.Readers.Works.{asks, borrower, hands_out_in, is_fetch, scope, work}
@@ -30,7 +30,7 @@ use Rattle.dsql_laws_calls.proofs.Begun.{begun_begins, over_begun}
 use Rattle.dsql_laws_calls.proofs.CallTenures.{call_line, line_of_call}
 use Rattle.dsql_laws_calls.proofs.Coming.{sound}
 use Rattle.dsql_laws_calls.proofs.DueWay.{borrow_same}
-use Rattle.dsql_laws_calls.proofs.EndedRows.{ender_over, rows_kept}
+use Rattle.dsql_laws_calls.proofs.EndedRows.{rows_kept}
 use Rattle.dsql_laws_calls.proofs.HandedRows.{rows_begun}
 use Rattle.dsql_laws_calls.proofs.Lent.{stays_lent}
 use Rattle.dsql_laws_calls.proofs.Lines.{line_here, line_stays, unheard}
@@ -42,6 +42,7 @@ use Rattle.dsql_laws_calls.proofs.StaysUnderWay.{coming_work}
 use Rattle.dsql_laws_calls.proofs.UnderWay.{at_number, clash, ending_over, line_at_its, UnderWay}
 use Rattle.dsql_laws_calls.proofs.Why.{why_used}
 use Rattle.dsql_laws_due.proofs.Holds.{IsOther}
+use Rattle.dsql_laws_due.proofs.OnRows.{closed_over, fetch_of}
 
 -- Holds if the driver call closes the rows of the call that has the connection, or fetches from them.
 pub record CallWay (H : List Event) (c t : ℕ) (own : Owner) (m : ℕ) (q : DriverCall) : Type 0 where
@@ -100,18 +101,6 @@ module _ (H : List Event) (e : Entry) (own : Owner) (l : Lawful H) (lent : place
               call_unbegun H e.conn e.tenure own l lent call (ap (is_begun H) at ∙ rows_begun H j k l rows (ap (hands_out_in k) its ∙ same_itself k))
           of_work v its x = absurd cc
 
-      gone : closes H e.call_no j ≡ true → are_over H j ≡ true
-      gone ends =
-          let y = both (ender H j == e.call_no) (not (is_late H (scope (work H j))) || has_begun_to_send H e.call_no) ends in
-          ender_over H j (λ none. never (e.call_no == 0) (ap (λ i. i == 0) (sym (same_number (ender H j) e.call_no y.0) ∙ none)) some)
-        where
-          never : (b : Bool) → b ≡ true → b ≡ false → ⊥
-          never b x y = cc
-
-      fetching : (v : Work) → (v ≡ Fetch j) ⊎ (v ≡ Close j) → is_fetch v ≡ true → v ≡ Fetch j
-      fetching v (inl its) x = its
-      fetching v (inr its) x = let wrong : true ≡ false = sym x ∙ ap is_fetch its in absurd cc
-
       wanted : (w : Wish) → is_due (line_of H j w) e.call ≡ true → ((w ≡ wishes.Close) × (are_over H j ≡ true)) ⊎ ((w ≡ wishes.Fetch) × (work H e.call_no ≡ Fetch j)) → CallWay H e.conn e.tenure own e.call_no e.call
       wanted w x kind = let same = itself (line_at_its H j e.conn e.tenure own w e.call here lent x) in record { wish = w; due = there w (subst (λ i. is_due (line_of H i w) e.call ≡ true) same x); kind = moved same kind }
         where
@@ -121,8 +110,8 @@ module _ (H : List Event) (e : Entry) (own : Owner) (l : Lawful H) (lent : place
           moved same (inr y) = inr (y.0, y.1 ∙ ap Fetch same)
 
       by : (a b : Bool) → closes H e.call_no j ≡ a → (is_fetch (work H e.call_no) && (are_live H j && is_none (decided H e.call_no))) ≡ b → is_due (sent_for H j (wish_as a b)) e.call ≡ true → CallWay H e.conn e.tenure own e.call_no e.call
-      by true b ends fetches x = wanted wishes.Close x (inl (refl, gone ends))
-      by false true ends fetches x = let y = both (is_fetch (work H e.call_no)) (are_live H j && is_none (decided H e.call_no)) fetches in wanted wishes.Fetch x (inr (refl, fetching (work H e.call_no) which y.0))
+      by true b ends fetches x = wanted wishes.Close x (inl (refl, closed_over H e.call_no j some ends))
+      by false true ends fetches x = let y = both (is_fetch (work H e.call_no)) (are_live H j && is_none (decided H e.call_no)) fetches in wanted wishes.Fetch x (inr (refl, fetch_of j (work H e.call_no) which y.0))
       by false false ends fetches x = absurd cc
 
   due_call_way : is_due_at H (place H e.conn) e ≡ true → IsOther H e.call_no → CallWay H e.conn e.tenure own e.call_no e.call

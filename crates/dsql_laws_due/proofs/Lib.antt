@@ -1,6 +1,7 @@
 pub mod LineTails
 pub mod LineEnds
 pub mod Holds
+pub mod OnRows
 pub mod Ways
 pub mod Came
 pub mod KeptStays

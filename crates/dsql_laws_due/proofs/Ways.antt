@@ -19,7 +19,7 @@ use Rattle.dsql_laws_calls.specs.tx.declared.end.TxEnd.TheVariants as tx_ends
 use Rattle.dsql_laws_calls.specs.works.Exchanges.{exchanges}
 use Rattle.dsql_laws_calls.specs.works.Line.{handed, test_of, body_after}
 use Rattle.dsql_laws_calls.proofs.laws_work.Rows.{not_true}
-use Rattle.dsql_laws_calls.specs.history.Readers.HandedOut.{over, rows_by, are_live, are_over, ender, is_late}
+use Rattle.dsql_laws_calls.specs.history.Readers.HandedOut.{over, rows_by, are_live, are_over, ender}
 use Rattle.dsql_laws_calls.specs.history.Rules.Wishes.{wish_as}
 use Rattle.dsql_laws_calls.proofs.laws.Tests.{both, same_number, same_itself}
 use Rattle.dsql_laws_calls.specs.history.declared.event.Event.{Event}
@@ -34,13 +34,12 @@ use Rattle.dsql_laws_calls.specs.history.Readers.Journals.{journal, heard_in}
 use Rattle.dsql_laws_calls.specs.history.Readers.Lines.{line_among, has_sent}
 use Rattle.dsql_laws_calls.specs.history.Readers.Pool.{place, home}
 use Rattle.dsql_laws_calls.specs.history.Readers.Transactions.{tx_end, is_begun, is_over, tx_ender}
-use Rattle.dsql_laws_calls.specs.history.Readers.Calls.{decided, has_begun_to_send, site}
+use Rattle.dsql_laws_calls.specs.history.Readers.Calls.{decided, site}
 use Rattle.dsql_laws_calls.specs.history.Rules.Sent.{asked_by, inner_after, untested, line_of, closes, wish, sent_for, close_due}
 use Rattle.dsql_laws_calls.specs.history.Rules.Ending.{first_closing, ended_by_call, end_after, ending_at, ending_with, ending}
 use Rattle.dsql_laws_calls.specs.history.Rules.Line.{due_in, due_for, tidying, is_due, is_due_at}
 use Rattle.dsql_laws_calls.specs.history.Legal.{Lawful}
 use Rattle.dsql_laws_tenures.specs.Tenures.{made_by}
-use Rattle.dsql_laws_calls.proofs.EndedRows.{ender_over}
 use Rattle.dsql_laws_calls.proofs.Owners.{at_home, owner_is_of}
 use Rattle.dsql_laws_calls.proofs.Plain.{begins}
 use Rattle.dsql_laws_calls.proofs.Makers.{hands_out, rows_hand_out, sent_made, rows_begin_nothing}
@@ -56,6 +55,7 @@ use Rattle.dsql_laws_calls.proofs.UnderWay.{line_made, handed_there, Newest, Goi
 use Rattle.dsql_laws_calls.proofs.DueWay.{borrow_same, inner_is}
 use Rattle.dsql_laws_calls.proofs.InnerLines.{no_cursor}
 use Rattle.dsql_laws_calls.proofs.LiveRows.{dead_over, over_some}
+use Rattle.dsql_laws_due.proofs.OnRows.{closed_over, fetch_of}
 use Rattle.dsql_laws_due.proofs.LineTails.{no_handle}
 use Rattle.dsql_laws_due.proofs.LineEnds.{IsShut, line_shut, unhanded_wish, ungiven_shut}
 use Rattle.dsql_laws_due.proofs.Holds.{asked_in, AllShut, Kept, RowsWay, EndsWay, TestsWay, TxWay, IsOther}
@@ -358,21 +358,8 @@ over_way H e own j l f d same other some which due =
               });
         }
 
-    -- The call that closes the rows has ended them.
-    gone : closes H e.call_no j ≡ true → are_over H j ≡ true
-    gone ends =
-        let y = both (ender H j == e.call_no) (not (is_late H (scope (work H j))) || has_begun_to_send H e.call_no) ends in
-        ender_over H j (λ none. never (e.call_no == 0) (ap (λ i. i == 0) (sym (same_number (ender H j) e.call_no y.0) ∙ none)) some)
-      where
-        never : (b : Bool) → b ≡ true → b ≡ false → ⊥
-        never b x y = cc
-
-    fetching : (v : Work) → (v ≡ Fetch j) ⊎ (v ≡ Close j) → is_fetch v ≡ true → v ≡ Fetch j
-    fetching v (inl its) x = its
-    fetching v (inr its) x = let wrong : true ≡ false = sym x ∙ ap is_fetch its in absurd cc
-
     by : (a b : Bool) → closes H e.call_no j ≡ a → (is_fetch (work H e.call_no) && (are_live H j && is_none (decided H e.call_no))) ≡ b → is_due (sent_for H j (wish_as a b)) e.call ≡ true → TxWay H e.conn e.tenure own e.call_no e.call
-    by true b ends fetches x = wanted wishes.Close x (λ hands. inr refl) (inl (refl, gone ends))
+    by true b ends fetches x = wanted wishes.Close x (λ hands. inr refl) (inl (refl, closed_over H e.call_no j some ends))
     by false true ends fetches x =
         let y = both (is_fetch (work H e.call_no)) (are_live H j && is_none (decided H e.call_no)) fetches in
         let z = both (are_live H j) (is_none (decided H e.call_no)) y.1 in
@@ -381,7 +368,7 @@ over_way H e own j l f d same other some which due =
         let goes = live_goes H j (number_of own) l z.0 hands in
         let b = both (is_begun H (number_of own)) (not (is_over H (number_of own))) goes in
         inl (f.ends e.conn e.tenure own lent_here (not_true (is_over H (number_of own)) b.1)))
-        (inr (refl, fetching (work H e.call_no) which y.0))
+        (inr (refl, fetch_of j (work H e.call_no) which y.0))
     by false false ends fetches x = absurd cc
 
 pub due_tx_way : (H : List Event) (e : Entry) (own : Owner) → Lawful H → Facts H → Kept H → is_due_at H (place H e.conn) e ≡ true → place H e.conn ≡ Some (Lent e.tenure own) → is_call own ≡ false → IsOther H e.call_no

@@ -50,8 +50,8 @@ same_fault fault other is = ap Err (ap (fault_or fault) is)
 wants_anyway : (call : DriverCall) (spare : ℕ) (before after : Option WireTold) → WantsMemory call spare before after → WantsMemory call 0 before after
 wants_anyway call spare before after h = elim h [ inl asked ↦ inl asked | inr full ↦ inr (refl, full.1) ]
 
--- A call that failed on a wire meets the contract of a failed call if the wire's entries are kept, whatever the type of
--- its answer is.
+-- A call that failed on a wire meets the contract of a failed call if the wire's entries are kept. The type of its answer
+-- doesn't matter.
 pub failed : {A B W : Type 0} (f : A → Entry) (g : B → Entry) (wire : Ghosts W) (p : Permit) (old thin new : Journaled W) (fault : WireFault) → keeping thin ≡ old → Calls f wire p thin new (Err fault)
     → Calls g wire p old (keeping new) (Err fault)
 failed f g wire p old thin new fault same calls =

@@ -13,8 +13,8 @@ use Rattle.dsql_wire.specs.Told.{TellsOf}
 use Rattle.dsql_wire.specs.declared.fault.WireFault.{WireFault}
 use Rattle.dsql_wire.specs.declared.fault.WireFault.TheVariants.{Stray, Memory}
 
--- A wire with its journal: the connection's number, the connection's journal with the newest entry first, for how many
--- entries there is memory, and the driver's wire.
+-- A wire with its journal: the connection's number, its journal, for how many entries there is memory, and the driver's
+-- wire. The newest entry of the journal stands first.
 pub record Journaled (W : Type 0) : Type 0 where
   pub conn : ℕ
   pub journal : List Entry
