@@ -36,7 +36,7 @@ use Rattle.dsql_history.specs.Readers.Journals.{journal}
 use Rattle.dsql_history.specs.Readers.Transactions.{is_begun, tx_end}
 use Rattle.dsql_history.specs.Readers.HandedOut.{rows_by, are_over}
 use Rattle.dsql_history.specs.Readers.Lines.{has_sent}
-use Rattle.dsql_history.specs.Readers.Decisions.{statement, arguments, label_of, told_of, rows_reply, options_refused, bad_reply, reply_to, decision}
+use Rattle.dsql_history.specs.Readers.Decisions.{statement, arguments, label_of, told_of, rows_reply, options_refused, bad_reply, reply_to, Trying, decision}
 
 -- Returns the rows that an operation names, if their query has replied.
 abbrev pub rows_for : List Event → Op → Option Rows
@@ -110,15 +110,17 @@ entering before client op =
       decided = told_at_entry before op;
     }
 
+-- Returns how a call with this work and record stands in the try with this number.
+abbrev pub trying : ℕ → Work → CallRecord → Trying
+trying number work r =
+    record { again = tries_again work number; number = number; count = length r.params; work = work }
+
 -- Returns the record of a call with this work after an answer to it in this try. The layer's own driver calls
 -- belong to no call and change no record.
 abbrev pub decided_by : ℕ → Work → Entry → CallRecord → CallRecord
 decided_by number work e r =
     cond (e.call_no == 0) r
-    (record r {
-      decided = decision (tries_again work number) number
-          (length r.params) work e.call e.answer r.decided;
-    })
+    (record r { decided = decision (trying number work r) e.call e.answer r.decided })
 
 -- Returns the records of all calls, each at its number.
 abbrev pub calls : List Event → List CallRecord
@@ -166,11 +168,16 @@ told_by_tries before work tries =
 abbrev pub has_begun_to_send : List Event → ℕ → Bool
 has_begun_to_send before n = has_sent n (journal before (site before n))
 
--- Returns the reply that others have settled for call n in this scope, if any. If a transaction ends before a
--- call in it has sent anything, the call gets that end.
-abbrev pub told_in : List Event → ℕ → Work → Scope → Option Reply
-told_in before n work Db = told_by_tries before work (tries before n)
-told_in before n work (Tx k) = cond (has_begun_to_send before n) None (done_with (tx_end before k))
+-- Returns the reply that transaction k's end gives call n in it, if the transaction ends before the call has
+-- sent anything.
+abbrev pub told_by_tx_end : List Event → ℕ → ℕ → Option Reply
+told_by_tx_end before n k = cond (has_begun_to_send before n) None (done_with (tx_end before k))
+
+-- Returns the reply that others have settled for call n, if any. On the database its tries settle it, in a
+-- transaction the transaction's end.
+abbrev pub told_by_scope : List Event → ℕ → Work → Scope → Option Reply
+told_by_scope before n work Db = told_by_tries before work (tries before n)
+told_by_scope before n work (Tx k) = told_by_tx_end before n k
 
 -- Returns the reply that others have settled for call n, if any. For a fetch of rows that they ended, it is
 -- that there is no row. For a close, it is that nothing is left to close.
@@ -179,7 +186,7 @@ told_of_work before n (Fetch k) = cond (are_over before k) (Some (Truth false)) 
 told_of_work before n (Close k) = Some reply.Ok
 told_of_work before n (End k) = None
 told_of_work before n Look = None
-told_of_work before n it = told_in before n it (scope it)
+told_of_work before n it = told_by_scope before n it (scope it)
 
 abbrev pub told_by_others : List Event → ℕ → Option Reply
 told_by_others before n = told_of_work before n (work before n)

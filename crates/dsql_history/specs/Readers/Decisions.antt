@@ -155,8 +155,18 @@ abbrev pub close_decision : ℕ → Work → DriverAnswer → Option Reply → O
 close_decision number (Close k) answer earlier = done_reply number answer
 close_decision number work answer earlier = closing_decision number answer earlier
 
--- Returns the reply that is decided after this answer. The call has this work, makes this try, has this many
--- parameters, and tries again or doesn't.
+-- How a call stands in a try as the driver answers it.
+pub record Trying : Type 0 where
+  -- Whether the call tries again after a Bad.
+  pub again : Bool
+  -- The number of this try.
+  pub number : ℕ
+  -- How many parameters the call has.
+  pub count : ℕ
+  -- What the call does.
+  pub work : Work
+
+-- Returns the reply that is decided after this answer, given how the call stands and what was decided earlier.
 --
 -- These answers decide: the answer to an Exec, a Ping, a fetch, a Begin, a Commit or a Rollback, and a Bad to a Reset.
 -- A Query's answer decides if it fails or hands out rows. A Prepare's answer decides if it failed, or reports another
@@ -164,17 +174,16 @@ close_decision number work answer earlier = closing_decision number answer earli
 --
 -- The layer passes over a Fail to a Reset. A CloseStmt and a test decide nothing, and neither does the close of
 -- rows that end with their transaction.
-abbrev pub decision : Bool → ℕ → ℕ → Work → DriverCall → DriverAnswer → Option Reply → Option Reply
-decision again number count work (Exec input params) answer earlier = reply_to again number answer
-decision again number count work (Query input params) answer earlier = query_decision again number work answer
-decision again number count work Ping answer earlier = done_reply number answer
-decision again number count work (calls.Begin level read_only) answer earlier = begin_reply again number answer
-decision again number count work Commit answer earlier = done_reply number answer
-decision again number count work Rollback answer earlier = done_reply number answer
-decision again number count work (Next rows) answer earlier = fetch_decision again number work answer
-decision again number count work (CloseRows rows) answer earlier = close_decision number work answer earlier
-decision again number count work (Prepare text) (answers.Prepared handle inputs) earlier =
-    told_of (count_fault inputs count)
-decision again number count work (Prepare text) answer earlier = reply_to again number answer
-decision again number count work Reset answers.Bad earlier = bad_reply again number
-decision again number count work _ answer earlier = earlier
+abbrev pub decision : Trying → DriverCall → DriverAnswer → Option Reply → Option Reply
+decision trying (Exec input params) answer earlier = reply_to trying.again trying.number answer
+decision trying (Query input params) answer earlier = query_decision trying.again trying.number trying.work answer
+decision trying Ping answer earlier = done_reply trying.number answer
+decision trying (calls.Begin level read_only) answer earlier = begin_reply trying.again trying.number answer
+decision trying Commit answer earlier = done_reply trying.number answer
+decision trying Rollback answer earlier = done_reply trying.number answer
+decision trying (Next rows) answer earlier = fetch_decision trying.again trying.number trying.work answer
+decision trying (CloseRows rows) answer earlier = close_decision trying.number trying.work answer earlier
+decision trying (Prepare text) (answers.Prepared handle inputs) earlier = told_of (count_fault inputs trying.count)
+decision trying (Prepare text) answer earlier = reply_to trying.again trying.number answer
+decision trying Reset answers.Bad earlier = bad_reply trying.again trying.number
+decision trying _ answer earlier = earlier

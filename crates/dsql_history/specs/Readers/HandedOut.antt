@@ -112,9 +112,8 @@ caller _ = 0
 abbrev pub ended_at : Event → Bool → ℕ
 ended_at e still_live = cond still_live 0 (caller e)
 
--- Returns the call that ended the rows of call n. It is a call that closes them or ends their transaction, as
--- it entered, or a fetch that got no row. It is 0 for the end of the run, and as long as nothing has ended
--- them.
+-- Returns the call that ended the rows of call n, 0 if no call did. It is a call that closes them or ends their
+-- transaction, as it entered, or a fetch that got no row. The rows themselves say what ended them, if anything has.
 abbrev pub ender : List Event → ℕ → ℕ
 ender [] n = 0
 ender (e ∷ before) n = cond (are_live before n) (ended_at e (are_live (e ∷ before) n)) (ender before n)

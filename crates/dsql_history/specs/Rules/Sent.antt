@@ -61,20 +61,55 @@ abbrev pub begin_line : Caps → Bool → DriverCall → List Entry → Option D
 begin_line can reset_due begin [] = cond reset_due (Some Reset) (Some begin)
 begin_line can reset_due begin (e ∷ earlier) = unless_last e (begin_after can begin e)
 
--- Returns the driver call that call n with this work sends next after its line. It is sent on connection c, which is
--- known to be bad or isn't. The wish says what is wanted of the rows that call n handed out.
-abbrev pub line_with : List Event → ℕ → ℕ → Bool → Wish → Work → Scope → List Entry → Option DriverCall
-line_with before n c bad wish (works_of.Begin label level read_only) it line =
-    begin_line (caps before) (is_reset_due before c) (Begin level read_only) line
-line_with before n c bad wish work Db line =
-    line_after (caps before) (is_reset_due before c) (asked_by before n) wish line
-line_with before n c bad wish work (Tx k) line = inner_after (caps before) bad (asked_by before n) wish line
+-- What the line of a call on its connection depends on.
+pub record Sender : Type 0 where
+  -- What the driver is able to do.
+  pub can : Caps
+  -- Whether a Reset is due on the connection.
+  pub reset_due : Bool
+  -- Whether the connection is known to be bad.
+  pub bad : Bool
+  -- What the call asks of the driver.
+  pub asked : Asked
+  -- What the call does.
+  pub work : Work
+  -- What is wanted of the rows that the call handed out.
+  pub wish : Wish
+
+-- Returns call n as a sender on connection c, with this wish.
+abbrev pub sender : List Event → ℕ → ℕ → Wish → Sender
+sender before n c wish =
+    record {
+      can = caps before;
+      reset_due = is_reset_due before c;
+      bad = went_bad (journal before c);
+      asked = asked_by before n;
+      work = work before n;
+      wish = wish;
+    }
+
+-- Returns the driver call that a call on the database sends next after its line.
+abbrev pub db_line : Sender → List Entry → Option DriverCall
+db_line it line = line_after it.can it.reset_due it.asked it.wish line
+
+-- Returns the driver call that a call in a transaction sends next after its line.
+abbrev pub tx_line : Sender → List Entry → Option DriverCall
+tx_line it line = inner_after it.can it.bad it.asked it.wish line
+
+-- Returns the driver call that a sender with this work in this scope sends next after its line.
+abbrev pub line_for : Work → Scope → Sender → List Entry → Option DriverCall
+line_for (works_of.Begin label level read_only) scope it line =
+    begin_line it.can it.reset_due (Begin level read_only) line
+line_for work Db it line = db_line it line
+line_for work (Tx k) it line = tx_line it line
+
+abbrev pub line_with : Sender → List Entry → Option DriverCall
+line_with it line = line_for it.work (scope it.work) it line
 
 abbrev pub line_at : List Event → ℕ → Wish → ℕ → Option Place → Option DriverCall
 line_at before n wish c (Some (Lent tenure owner)) =
     cond (number_of owner == borrower before n)
-    (line_with before n c (went_bad (journal before c)) wish (work before n) (scope (work before n))
-    (line_in owner n (heard_in before c tenure))) None
+    (line_with (sender before n c wish) (line_in owner n (heard_in before c tenure))) None
 line_at before n wish c _ = None
 
 -- Returns the driver call that comes next in the line of call n. The wish says what is wanted of the rows that

@@ -48,13 +48,21 @@ is_settled_for before n =
 abbrev pub has_to_reply : List Event → ℕ → Bool
 has_to_reply before n = not (is_own_step before n) && is_settled_for before n
 
+-- Returns the first of these that holds, if any.
+abbrev pub first_stand : List (Option Stand) → Option Stand
+first_stand [] = None
+first_stand (it ∷ []) = it
+first_stand (it ∷ next ∷ rest) = or_else it (first_stand (next ∷ rest))
+
 -- Returns where call n stands. It waits, a connection is being opened for it, its driver call is due, it has to reply,
 -- or it asks again after a refusal. It stands nowhere if it has to ask for another reason, or has settled its reply
 -- itself: that follows in the same step.
 abbrev pub stand : List Event → ℕ → Option Stand
 stand before n =
-    or_else (stands (waits n (pool before).waiting) Waits)
-    (or_else (opens (smallest (is_for n) (pool before)))
-    (or_else (stands (is_some (due_for before n)) (Sends (site before n)))
-    (or_else (stands (has_to_reply before n) Replies)
-    (stands (asks_again (tries before n)) Asks))))
+    first_stand
+    (stands (waits n (pool before).waiting) Waits
+    ∷ opens (smallest (is_for n) (pool before))
+    ∷ stands (is_some (due_for before n)) (Sends (site before n))
+    ∷ stands (has_to_reply before n) Replies
+    ∷ stands (asks_again (tries before n)) Asks
+    ∷ [])
