@@ -24,7 +24,7 @@ use Rattle.dsql_laws_calls.specs.history.declared.work.Scope.{Scope}
 use Rattle.dsql_laws_calls.specs.history.declared.work.Scope.TheVariants.{Db, Tx}
 use Rattle.dsql_laws_calls.specs.history.declared.work.Work.{Work}
 use Rattle.dsql_laws_calls.specs.history.declared.work.Work.TheVariants.{Execute, ReadOne, HandOut, Begin, End, Ping, Fetch, Close, Look}
-use Rattle.dsql_laws_calls.specs.history.Readers.Calls.{site, decided, done_with, has_begun_to_send, told_by_tries, told_in, told_of_work, told_by_others, asks_nothing, rests, rests_with}
+use Rattle.dsql_laws_calls.specs.history.Readers.Calls.{site, decided, done_with, has_begun_to_send, told_by_tries, told_by_scope, told_of_work, told_by_others, asks_nothing, rests, rests_with}
 use Rattle.dsql_laws_calls.specs.history.Readers.Course.{caps}
 use Rattle.dsql_laws_calls.specs.history.Readers.Journals.{journal}
 use Rattle.dsql_laws_calls.specs.history.Readers.Lines.{has_sent}
@@ -199,7 +199,7 @@ told_apart H move c j u tried h = by (work H j) refl h
     fewer true false k f x = clash (sym (f refl))
     fewer false false k f x = x
 
-    in_scope : (w : Work) (s : Scope) → scope (work H j) ≡ s → is_some (told_in H j w s) ≡ true → is_some (told_in K j w s) ≡ true
+    in_scope : (w : Work) (s : Scope) → scope (work H j) ≡ s → is_some (told_by_scope H j w s) ≡ true → is_some (told_by_scope K j w s) ≡ true
     in_scope w Db is x = own w x
     in_scope w (Tx k) is x = fewer (has_begun_to_send K j) (has_begun_to_send H j) k (begun_before H move c j k u is) x
 

@@ -15,7 +15,7 @@ use Rattle.dsql_laws_calls.specs.history.declared.work.Scope.{Scope}
 use Rattle.dsql_laws_calls.specs.history.declared.work.Scope.TheVariants.{Db, Tx}
 use Rattle.dsql_laws_calls.specs.history.declared.work.Work.{Work}
 use Rattle.dsql_laws_calls.specs.history.declared.work.Work.TheVariants.{Execute, ReadOne, HandOut, Begin, End, Ping, Fetch, Close, Look}
-use Rattle.dsql_laws_calls.specs.history.Readers.Calls.{site, decided, done_with, has_begun_to_send, told_by_tries, told_in, told_of_work, told_by_others, asks_nothing, rests, rests_with}
+use Rattle.dsql_laws_calls.specs.history.Readers.Calls.{site, decided, done_with, has_begun_to_send, told_by_tries, told_by_scope, told_of_work, told_by_others, asks_nothing, rests, rests_with}
 use Rattle.dsql_laws_calls.specs.history.Readers.Course.{caps}
 use Rattle.dsql_laws_calls.specs.history.Readers.HandedOut.{is_late, are_over}
 use Rattle.dsql_laws_calls.specs.history.Readers.Journals.{journal}
@@ -65,7 +65,7 @@ late_same H e (Tx k) = over_same H e k
 
 -- What others have settled for the other call stays settled.
 
-told_inside : (H : List Event) (e : Entry) (m : ℕ) (w : Work) (s : Scope) → Beside H e m → is_some (told_in H m w s) ≡ true → is_some (told_in (Heard e ∷ H) m w s) ≡ true
+told_inside : (H : List Event) (e : Entry) (m : ℕ) (w : Work) (s : Scope) → Beside H e m → is_some (told_by_scope H m w s) ≡ true → is_some (told_by_scope (Heard e ∷ H) m w s) ≡ true
 told_inside H e m w Db b h = ap (λ ts. is_some (told_by_tries (Heard e ∷ H) w ts)) (tried_same H e m b) ∙ h
 told_inside H e m w (Tx k) b h =
     ap (λ x. is_some (cond x None (done_with (tx_end (Heard e ∷ H) k)))) (sent_same H e m (site H m) b.other) ∙ by (has_begun_to_send H m) h

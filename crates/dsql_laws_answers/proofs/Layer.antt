@@ -1,6 +1,6 @@
 -- An answer to the layer, on a connection that isn't lent, leaves what is due for each call and which
 -- connections are in use. Each call that stood somewhere still does.
-use Rattle.std.proofs.Common.{◌≡◌, ◌≢◌, ℕ, ◌==◌, ◌⊎◌, inl, inr, Bool, true, false, ◌&&◌, ◌||◌, cond, List, [], ◌∷◌, ◌++◌, length, Option, Some, None, is_some, refl, sym, ap, ◌∙◌, arith}
+use Rattle.std.proofs.Common.{◌≡◌, ◌≢◌, ℕ, ◌==◌, ◌⊎◌, inl, inr, Bool, true, false, ◌&&◌, ◌||◌, cond, List, [], ◌∷◌, ◌++◌, Option, Some, None, is_some, refl, sym, ap, ◌∙◌, arith}
 use Rattle.dsql_laws_calls.specs.driver.declared.call.DriverCall.{DriverCall}
 use Rattle.dsql_laws_calls.specs.driver.declared.call.DriverCall.TheVariants.{Connect, Shut}
 use Rattle.dsql_laws_calls.specs.driver.Kinds.{is_begin, is_connect, is_shut}
@@ -18,7 +18,7 @@ use Rattle.dsql_laws_calls.specs.pool.Pooled.{Pooled, next_tenure}
 use Rattle.dsql_laws_calls.specs.works.Line.{Asked}
 use Rattle.dsql_laws_calls.specs.history.Readers.HandedOut.{live, handed_out, rows_heard, are_live}
 use Rattle.dsql_laws_calls.specs.history.Readers.Pool.{pool, place, home}
-use Rattle.dsql_laws_calls.specs.history.Readers.Tries.{lost, try_number, tries, loses, tries_again}
+use Rattle.dsql_laws_calls.specs.history.Readers.Tries.{lost, try_number, tries, loses}
 use Rattle.dsql_laws_calls.proofs.laws.Tests.{both, same_number, other_number}
 use Rattle.dsql_laws_calls.proofs.laws_work.Rows.{row_at, same_or_not}
 use Rattle.dsql_laws_calls.specs.history.declared.event.Event.{Event}
@@ -47,6 +47,7 @@ use Rattle.dsql_laws_calls.proofs.Looks.{heard_there}
 use Rattle.dsql_laws_calls.proofs.TxEnders.{same_going}
 use Rattle.dsql_laws_calls.proofs.Works.{other_heard}
 use Rattle.dsql_laws_calls.proofs.UnderWay.{clash}
+use Rattle.dsql_laws_replies.proofs.Records.{trying_of}
 use Rattle.dsql_laws_others.proofs.Alike.{due_alike, used_alike, lent_alike, line_asked, ends_alike, closings_alike, same_tx_ender}
 use Rattle.dsql_laws_others.proofs.Homes.{no_line, no_ending}
 use Rattle.dsql_laws_others.proofs.LentBeside.{LentAt, lent_or_not}
@@ -102,7 +103,7 @@ record_same H e n o = by (same_or_not n e.call_no)
         let m = e.call_no in
         ap
         (λ b.
-        cond b (call_record H m) (record (call_record H m) { decided = decision (tries_again (work H m) (try_number (tries H m))) (try_number (tries H m)) (length (call_record H m).params) (work H m) e.call e.answer (decided H m) }))
+        cond b (call_record H m) (record (call_record H m) { decided = decision (trying_of H m) e.call e.answer (decided H m) }))
         (ap (λ k. k == 0) o.layer)
 
     by : (n ≡ e.call_no) ⊎ (n ≢ e.call_no) → call_record (Heard e ∷ H) n ≡ call_record H n

@@ -10,7 +10,6 @@ use Rattle.dsql_laws_calls.specs.driver.Fits.{is_done}
 use Rattle.dsql_laws_calls.specs.course.declared.course.Wish.TheVariants as wishes
 use Rattle.dsql_laws_calls.specs.journal.declared.entry.Entry.{Entry}
 use Rattle.dsql_laws_calls.specs.journal.Kinds.{◌⇒◌, number_of}
-use Rattle.dsql_laws_calls.specs.journal.Readers.{went_bad}
 use Rattle.dsql_laws_calls.proofs.journal.Sentences.{MayFollow-of}
 use Rattle.dsql_laws_calls.specs.works.Line.{test_of}
 use Rattle.dsql_laws_calls.proofs.laws.Tests.{same_number}
@@ -24,7 +23,7 @@ use Rattle.dsql_laws_calls.specs.history.Readers.Lines.{line_in}
 use Rattle.dsql_laws_calls.specs.history.Readers.Pool.{place}
 use Rattle.dsql_laws_calls.specs.history.Readers.Works.{work, scope}
 use Rattle.dsql_laws_calls.specs.history.Rules.Line.{is_due}
-use Rattle.dsql_laws_calls.specs.history.Rules.Sent.{is_reset_due, begin_after, begin_line, line_with}
+use Rattle.dsql_laws_calls.specs.history.Rules.Sent.{is_reset_due, begin_after, begin_line, sender, line_for}
 use Rattle.dsql_laws_calls.specs.history.Legal.{Lawful}
 use Rattle.dsql_laws_calls.proofs.Looks.{heard_there, comes}
 use Rattle.dsql_laws_calls.proofs.Plain.{begins}
@@ -82,7 +81,7 @@ own_sends H e l h =
         let n = number_of u.owner in
         let line = line_in u.owner n (heard_in H e.conn e.tenure) in
         line_sends (caps H) (is_reset_due H e.conn) label level read_only line e.call
-        (ap (λ v. is_due (line_with H n e.conn (went_bad (journal H e.conn)) wishes.Nothing v (scope v) line) e.call) (sym (ap (work H) u.own ∙ is)) ∙ u.due)
+        (ap (λ v. is_due (line_for v (scope v) (sender H n e.conn wishes.Nothing) line) e.call) (sym (ap (work H) u.own ∙ is)) ∙ u.due)
     by u it is x = absurd cc
 
 pub asked_for : (H : List Event) (e : Entry) → Lawful (Heard e ∷ H) → begins_as_asked H e ≡ true

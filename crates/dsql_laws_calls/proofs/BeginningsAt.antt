@@ -15,7 +15,7 @@ use Rattle.dsql_laws.specs.pool.declared.moves.Move.TheVariants.{Lend}
 use Rattle.dsql_laws.specs.tx.Transactions.{ended_by}
 use Rattle.dsql_laws.specs.tx.declared.end.TxEnd.TheVariants as tx_ends
 use Rattle.dsql_laws.specs.works.Exchanges.{with_exchange, exchanges}
-use Rattle.dsql_laws.specs.history.Readers.Tries.{try_number, tries, tries_again}
+use Rattle.dsql_laws.specs.history.Readers.Tries.{try_number, tries}
 use Rattle.dsql_laws.proofs.Tests.{both, same_number, same_itself, other_number}
 use Rattle.dsql_laws.proofs.Wanted.{wanted}
 use Rattle.dsql_laws_work.proofs.Rows.{same_or_not, read_set}
@@ -23,7 +23,6 @@ use Rattle.dsql_laws.specs.history.declared.event.Event.{Event}
 use Rattle.dsql_laws.specs.history.declared.event.Event.TheVariants.{Entered, Heard, Pool, Replied, Ended}
 use Rattle.dsql_laws.specs.history.declared.event.Op.{Op}
 use Rattle.dsql_laws.specs.history.declared.reply.Reply.{Reply}
-use Rattle.dsql_laws.specs.history.declared.work.Work.{Work}
 use Rattle.dsql_laws.specs.history.declared.work.Work.TheVariants.{Look}
 use Rattle.dsql_laws.specs.history.Readers.Unfinished.{is_unfinished}
 use Rattle.dsql_laws.specs.history.Readers.Works.{work}
@@ -31,8 +30,8 @@ use Rattle.dsql_laws.specs.history.Readers.Journals.{journal, heard_in}
 use Rattle.dsql_laws.specs.history.Readers.Lines.{is_about, line_among}
 use Rattle.dsql_laws.specs.history.Readers.Pool.{pool, place, home}
 use Rattle.dsql_laws.specs.history.Readers.Transactions.{tx_by, is_begun}
-use Rattle.dsql_laws.specs.history.Readers.Calls.{calls, call_record, nobody, decided, decided_by}
-use Rattle.dsql_laws.specs.history.Readers.Decisions.{decision}
+use Rattle.dsql_laws.specs.history.Readers.Calls.{calls, call_record, nobody, decided, trying, decided_by}
+use Rattle.dsql_laws.specs.history.Readers.Decisions.{Trying, decision}
 use Rattle.dsql_laws.specs.history.Rules.Moves.{hears_in}
 use Rattle.dsql_laws.specs.history.Rules.Line.{is_due}
 use Rattle.dsql_laws.specs.history.Legal.{Allowed, Lawful}
@@ -212,10 +211,10 @@ began_heard H e l b c t own is begun = by (heard_tx H e (number_of own))
         let here : e.conn ≡ c = sym (at_home H e.conn e.tenure u.owner l.0 u.lent) ∙ ap (home H) own_number ∙ at_home H c t own l.0 is in
         grown true (ap (λ j. j == number_of own) (sym it.own) ∙ same_itself (number_of own)) here (ap (λ j. begins (work H j)) it.own ∙ begin) (ap (λ x. x && is_done e.answer) it.begin ∙ it.done)
 
-begin_decides : (again : Bool) (number count : ℕ) (w : Work) (q : DriverCall) (a : DriverAnswer) (earlier : Option Reply) → is_begin q ≡ true → is_done a ≡ true → is_some (decision again number count w q a earlier) ≡ true
-begin_decides again number count w (calls_of.Begin level read_only) Done earlier x y = refl
-begin_decides again number count w (calls_of.Begin level read_only) a earlier x y = absurd cc
-begin_decides again number count w q a earlier x y = absurd cc
+begin_decides : (t : Trying) (q : DriverCall) (a : DriverAnswer) (earlier : Option Reply) → is_begin q ≡ true → is_done a ≡ true → is_some (decision t q a earlier) ≡ true
+begin_decides t (calls_of.Begin level read_only) Done earlier x y = refl
+begin_decides t (calls_of.Begin level read_only) a earlier x y = absurd cc
+begin_decides t q a earlier x y = absurd cc
 
 told_heard : (H : List Event) (e : Entry) → Lawful H → begins (work H e.call_no) ≡ true → is_begin e.call ≡ true → is_done e.answer ≡ true → is_some (decided (Heard e ∷ H) e.call_no) ≡ true
 told_heard H e l begin x y = by (read_set (calls H) e.call_no (decided_by number (work H e.call_no) e (call_record H e.call_no)) e.call_no nobody)
@@ -226,9 +225,9 @@ told_heard H e l begin x y = by (read_set (calls H) e.call_no (decided_by number
     settled : is_some (decided_by (try_number (tries H e.call_no)) (work H e.call_no) e (call_record H e.call_no)).decided ≡ true
     settled =
         let r = call_record H e.call_no in
-        let again = tries_again (work H e.call_no) (try_number (tries H e.call_no)) in
-        ap (λ b. is_some (cond b r (record r { decided = decision again (try_number (tries H e.call_no)) (length r.params) (work H e.call_no) e.call e.answer r.decided })).decided) (numbered H e.call_no begin)
-        ∙ begin_decides again (try_number (tries H e.call_no)) (length r.params) (work H e.call_no) e.call e.answer r.decided x y
+        let t = trying (try_number (tries H e.call_no)) (work H e.call_no) r in
+        ap (λ b. is_some (cond b r (record r { decided = decision t e.call e.answer r.decided })).decided) (numbered H e.call_no begin)
+        ∙ begin_decides t e.call e.answer r.decided x y
 
     by : ((e.call_no ≡ e.call_no) × (e.call_no < length (calls H)) × (call_record (Heard e ∷ H) e.call_no ≡ decided_by (try_number (tries H e.call_no)) (work H e.call_no) e (call_record H e.call_no)))
         ⊎ ((e.call_no ≡ e.call_no → length (calls H) ≤ e.call_no) × (call_record (Heard e ∷ H) e.call_no ≡ call_record H e.call_no)) → is_some (decided (Heard e ∷ H) e.call_no) ≡ true

@@ -27,16 +27,15 @@ use Rattle.dsql_laws.specs.history.declared.work.Work.{Work}
 use Rattle.dsql_laws.specs.history.declared.work.Work.TheVariants as works_of
 use Rattle.dsql_laws.specs.history.Readers.Course.{caps}
 use Rattle.dsql_laws.specs.history.Readers.Works.{work, scope, asks}
-use Rattle.dsql_laws.specs.history.Readers.Journals.{journal, heard_in}
+use Rattle.dsql_laws.specs.history.Readers.Journals.{heard_in}
 use Rattle.dsql_laws.specs.history.Readers.Pool.{place}
-use Rattle.dsql_laws.specs.history.Rules.Sent.{is_reset_due, asked_by, line_with}
+use Rattle.dsql_laws.specs.history.Rules.Sent.{is_reset_due, asked_by, sender, line_for}
 use Rattle.dsql_laws.specs.history.Rules.Line.{is_due}
 use Rattle.dsql_laws.specs.history.Legal.{Lawful}
 use Rattle.dsql_laws_calls.proofs.Owners.{lent_asks}
 use Rattle.dsql_laws_calls.proofs.Plain.{is_plain, begins}
 use Rattle.dsql_laws_calls.proofs.Beginnings.{begin_owner}
 use Rattle.dsql_laws.specs.history.Readers.Lines.{line_among, line_in}
-use Rattle.dsql_laws.specs.journal.Readers.{went_bad}
 use Rattle.dsql_laws_calls.proofs.Lines.{line_there}
 
 -- Returns what is sent next on connection c in tenure t, given what is wanted of the rows of its call.
@@ -55,7 +54,7 @@ line_of_call H c t own w l is call =
         at true its = let wrong : true ≡ false = sym call ∙ begin_owner H c t own l is its in absurd cc
         at false its = refl
 
-    by : (v : Work) → asks v ≡ true → begins v ≡ false → line_with H (number_of own) c (went_bad (journal H c)) w v (scope v) (line_in own (number_of own) (heard_in H c t)) ≡ line_after (caps H) (is_reset_due H c) (asked_by H (number_of own)) w (line_in own (number_of own) (heard_in H c t))
+    by : (v : Work) → asks v ≡ true → begins v ≡ false → line_for v (scope v) (sender H (number_of own) c w) (line_in own (number_of own) (heard_in H c t)) ≡ line_after (caps H) (is_reset_due H c) (asked_by H (number_of own)) w (line_in own (number_of own) (heard_in H c t))
     by (works_of.Execute Db) h k = refl
     by (works_of.ReadOne Db dests) h k = refl
     by (works_of.HandOut Db label) h k = refl

@@ -27,7 +27,7 @@ use Rattle.dsql_laws.specs.history.Readers.Lines.{line_among, line_in, has_sent}
 use Rattle.dsql_laws.specs.history.Readers.Pool.{place, home}
 use Rattle.dsql_laws.specs.history.Readers.Transactions.{is_begun, is_over, goes_on, tx_ender}
 use Rattle.dsql_laws.specs.history.Readers.Calls.{decided, site, has_begun_to_send}
-use Rattle.dsql_laws.specs.history.Rules.Sent.{is_reset_due, asked_by, inner_after, line_with, line_of, closes, wish, sent_for, close_due}
+use Rattle.dsql_laws.specs.history.Rules.Sent.{is_reset_due, asked_by, inner_after, sender, line_for, line_of, closes, wish, sent_for, close_due}
 use Rattle.dsql_laws.specs.history.Rules.Ending.{ending}
 use Rattle.dsql_laws.specs.history.Rules.Line.{due_in, due_for, tidying, sends_in, is_due, is_due_at}
 use Rattle.dsql_laws.specs.history.Legal.{Lawful}
@@ -116,7 +116,7 @@ pub inner_is : (H : List Event) (c t : ℕ) (own : Owner) (m : ℕ) (w : Wish) (
 inner_is H c t own m w k other s =
     by (work H m) s ∙ ap (λ b. inner_after (caps H) (went_bad (journal H c)) (asked_by H m) w (cond b (heard_in H c t) (line_among m (heard_in H c t)))) other
   where
-    by : (v : Work) → scope v ≡ Tx k → line_with H m c (went_bad (journal H c)) w v (scope v) (line_in own m (heard_in H c t)) ≡ inner_after (caps H) (went_bad (journal H c)) (asked_by H m) w (line_in own m (heard_in H c t))
+    by : (v : Work) → scope v ≡ Tx k → line_for v (scope v) (sender H m c w) (line_in own m (heard_in H c t)) ≡ inner_after (caps H) (went_bad (journal H c)) (asked_by H m) w (line_in own m (heard_in H c t))
     by (Execute (Tx j)) x = refl
     by (ReadOne (Tx j) dests) x = refl
     by (HandOut (Tx j) label) x = refl
@@ -141,7 +141,7 @@ own_due H e l d some asking h u =
       unfinished = λ k. u;
       rowed = λ j which. asks_rowless (work H e.call_no) j asking which;
       why = inl (record { itself = own; unfinished = ap (is_unfinished H) own ∙ u; sends = some_due (line_there H e.conn e.tenure d.owner (number_of d.owner) wishes.Nothing) e.call due });
-      ending = λ x. clash (sym x ∙ no_ending_due (line_there H e.conn e.tenure d.owner (number_of d.owner) wishes.Nothing) e.call (with_ends H (number_of d.owner) e.conn (went_bad (journal H e.conn)) wishes.Nothing (work H (number_of d.owner)) (scope (work H (number_of d.owner))) (line_in d.owner (number_of d.owner) (heard_in H e.conn e.tenure))) due);
+      ending = λ x. clash (sym x ∙ no_ending_due (line_there H e.conn e.tenure d.owner (number_of d.owner) wishes.Nothing) e.call (with_ends (sender H (number_of d.owner) e.conn wishes.Nothing) (line_in d.owner (number_of d.owner) (heard_in H e.conn e.tenure))) due);
       within = λ s. asks_outside (work H e.call_no) (number_of d.owner) asking s;
       line = λ call. (wishes.Nothing, ap (λ o. is_due o e.call) (sym (line_of_call H e.conn e.tenure d.owner wishes.Nothing l d.lent call)) ∙ due);
       turn = turn_of H e l d;

@@ -35,7 +35,7 @@ use Rattle.dsql_laws.specs.history.Readers.Works.{work, scope, borrower}
 use Rattle.dsql_laws.specs.history.Readers.Lines.{line_in}
 use Rattle.dsql_laws.specs.history.Rules.Course.{keeps_course, begins_with_run, ends_once}
 use Rattle.dsql_laws.specs.history.Rules.Line.{is_used, parts}
-use Rattle.dsql_laws.specs.history.Rules.Sent.{is_reset_due, asked_by, untested, inner_after, line_with, line_at, line_of}
+use Rattle.dsql_laws.specs.history.Rules.Sent.{is_reset_due, asked_by, untested, Sender, sender, line_for, line_with, line_at, line_of}
 use Rattle.dsql_laws.specs.history.Legal.{Allowed, Lawful}
 use Rattle.dsql_laws_calls.proofs.Owners.{at_home}
 use Rattle.dsql_laws_calls.proofs.Lent.{uses_stay}
@@ -44,7 +44,7 @@ use Rattle.dsql_laws_calls.proofs.Stays.{work_stays, asked_stays}
 -- Returns what call n would send next on connection c, given what is wanted of the rows that the call handed
 -- out. The connection is lent to this owner in tenure t.
 abbrev pub line_there : List Event → ℕ → ℕ → Owner → ℕ → Wish → Option DriverCall
-line_there H c t own n w = line_with H n c (went_bad (journal H c)) w (work H n) (scope (work H n)) (line_in own n (heard_in H c t))
+line_there H c t own n w = line_with (sender H n c w) (line_in own n (heard_in H c t))
 
 -- If call n uses the connection, this is its line.
 pub line_here : (H : List Event) (c t : ℕ) (own : Owner) (n : ℕ) (w : Wish) → Lawful H → place H c ≡ Some (Lent t own) → borrower H n ≡ number_of own → line_of H n w ≡ line_there H c t own n w
@@ -75,29 +75,20 @@ reset_as ca cb x y p q = rw (p, q) refl
 pub reset_stays : (H : List Event) (e : Event) (c t : ℕ) (own : Owner) → Lawful H → Allowed H e → place H c ≡ Some (Lent t own) → is_used H (number_of own) ≡ true → is_reset_due (e ∷ H) c ≡ is_reset_due H c
 reset_stays H e c t own l a is used = reset_as (caps H) (caps (e ∷ H)) (uses H c) (uses (e ∷ H) c) (caps_stay H e c (Lent t own) a is) (uses_stay H e c t own l a is used)
 
-pub inner_as : (ca cb : Caps) (bad : Bool) (x y : Asked) (w : Wish) (L : List Entry) → cb ≡ ca → y ≡ x → inner_after cb bad y w L ≡ inner_after ca bad x w L
-inner_as ca cb bad x y w L p q = rw (p, q) refl
-
-plain_as : (ca cb : Caps) (b d : Bool) (x y : Asked) (w : Wish) (L : List Entry) → cb ≡ ca → d ≡ b → y ≡ x → line_after cb d y w L ≡ line_after ca b x w L
-plain_as ca cb b d x y w L p r q = rw (p, r, q) refl
-
--- The driver's abilities, whether a reset is due, and what the call asks decide what a line sends next.
-same_line : (H K : List Event) (n c : ℕ) (bad : Bool) (w : Wish) (it : Work) (s : Scope) (L : List Entry) → caps K ≡ caps H → is_reset_due K c ≡ is_reset_due H c → asked_by K n ≡ asked_by H n
-    → line_with K n c bad w it s L ≡ line_with H n c bad w it s L
-same_line H K n c bad w (works_of.Begin label level read_only) s L can reset asked = rw (reset, can) refl
-same_line H K n c bad w it Db L can reset asked = plain_as (caps H) (caps K) (is_reset_due H c) (is_reset_due K c) (asked_by H n) (asked_by K n) w L can reset asked
-same_line H K n c bad w it (Tx k) L can reset asked = inner_as (caps H) (caps K) bad (asked_by H n) (asked_by K n) w L can asked
-
-line_as : (H K : List Event) (n c : ℕ) (w : Wish) (own : Owner) (it jt : Work) (J M L N : List Entry) → jt ≡ it → M ≡ J → N ≡ L
-    → line_with K n c (went_bad M) w jt (scope jt) (line_in own n N) ≡ line_with K n c (went_bad J) w it (scope it) (line_in own n L)
-line_as H K n c w own it jt J M L N a b d = rw (a, b, d) refl
+-- A call is the same sender in two histories that are alike in everything on which its line depends.
+pub same_sender : (H K : List Event) (n c : ℕ) (w : Wish) → caps K ≡ caps H → is_reset_due K c ≡ is_reset_due H c → journal K c ≡ journal H c → asked_by K n ≡ asked_by H n → work K n ≡ work H n → sender K n c w ≡ sender H n c w
+same_sender H K n c w can reset heard asked its =
+    by (λ x y J z it. record { can = x; reset_due = y; bad = went_bad J; asked = z; work = it; wish = w }) (caps H) (caps K) (is_reset_due H c) (is_reset_due K c) (journal H c) (journal K c) (asked_by H n) (asked_by K n) (work H n) (work K n) can reset heard asked its
+  where
+    by : (f : Caps → Bool → List Entry → Asked → Work → Sender) (x u : Caps) (y v : Bool) (J M : List Entry) (z s : Asked) (it jt : Work) → u ≡ x → v ≡ y → M ≡ J → s ≡ z → jt ≡ it → f u v M s jt ≡ f x y J z it
+    by f x u y v J M z s it jt can reset heard asked its = rw (can, reset, heard, asked, its) refl
 
 pub line_stays : (H : List Event) (e : Event) (c t : ℕ) (own : Owner) (n : ℕ) (w : Wish) → Lawful H → Allowed H e → place H c ≡ Some (Lent t own) → is_used H (number_of own) ≡ true
     → journal (e ∷ H) c ≡ journal H c → (work H n ≡ Look → ⊥) → line_there (e ∷ H) c t own n w ≡ line_there H c t own n w
 line_stays H e c t own n w l a is used quiet busy =
-    line_as H (e ∷ H) n c w own (work H n) (work (e ∷ H) n) (journal H c) (journal (e ∷ H) c) (heard_in H c t) (heard_in (e ∷ H) c t) (work_stays H e n busy) quiet (ap (of_tenure t) quiet)
-    ∙ same_line H (e ∷ H) n c (went_bad (journal H c)) w (work H n) (scope (work H n)) (line_in own n (heard_in H c t)) (caps_stay H e c (Lent t own) a is) (reset_stays H e c t own l a is used)
-    (asked_stays H e n busy)
+    ap (λ J. line_with (sender (e ∷ H) n c w) (line_in own n (of_tenure t J))) quiet
+    ∙ ap (λ S. line_with S (line_in own n (heard_in H c t)))
+    (same_sender H (e ∷ H) n c w (caps_stay H e c (Lent t own) a is) (reset_stays H e c t own l a is used) quiet (asked_stays H e n busy) (work_stays H e n busy))
 
 -- An event that doesn't part an entry leaves the journal of the entry's connection as it was.
 pub unheard : (H : List Event) (last : Event) (e : Entry) → parts last e ≡ false → journal (last ∷ H) e.conn ≡ journal H e.conn
@@ -131,10 +122,10 @@ after_closes can reset asked (e ∷ earlier) h =
     let made = exchanges (e ∷ earlier) in
     cond_closes (is_bad e.answer || is_valid e.call) None (body_after can false asked wishes.Nothing made) (body_after can false asked wishes.Close made) (body_closes can asked made (handed asked.aim made)) h
 
-with_closes : (H : List Event) (n c : ℕ) (bad : Bool) (it : Work) (s : Scope) (L : List Entry) → is_some (line_with H n c bad wishes.Nothing it s L) ≡ true → is_some (line_with H n c bad wishes.Close it s L) ≡ true
-with_closes H n c bad (works_of.Begin label level read_only) s L h = h
-with_closes H n c bad it Db L h = after_closes (caps H) (is_reset_due H c) (asked_by H n) L h
-with_closes H n c bad it (Tx k) L h = inner_closes (untested (caps H)) bad (asked_by H n) (exchanges L) (handed (asked_by H n).aim (exchanges L)) h
+with_closes : (S : Sender) (it : Work) (s : Scope) (L : List Entry) → is_some (line_for it s (record S { wish = wishes.Nothing }) L) ≡ true → is_some (line_for it s (record S { wish = wishes.Close }) L) ≡ true
+with_closes S (works_of.Begin label level read_only) s L h = h
+with_closes S it Db L h = after_closes S.can S.reset_due S.asked L h
+with_closes S it (Tx k) L h = inner_closes (untested S.can) S.bad S.asked (exchanges L) (handed S.asked.aim (exchanges L)) h
 
 pub closes_too : (H : List Event) (c t : ℕ) (own : Owner) (n : ℕ) → is_some (line_there H c t own n wishes.Nothing) ≡ true → is_some (line_there H c t own n wishes.Close) ≡ true
-closes_too H c t own n h = with_closes H n c (went_bad (journal H c)) (work H n) (scope (work H n)) (line_in own n (heard_in H c t)) h
+closes_too H c t own n h = with_closes (sender H n c wishes.Nothing) (work H n) (scope (work H n)) (line_in own n (heard_in H c t)) h

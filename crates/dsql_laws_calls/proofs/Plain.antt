@@ -18,7 +18,6 @@ use Rattle.dsql_laws.specs.course.Rows.{rows_next, rows_next_of}
 use Rattle.dsql_laws.specs.course.declared.course.Course.TheVariants as courses
 use Rattle.dsql_laws.specs.journal.declared.entry.Entry.{Entry}
 use Rattle.dsql_laws.specs.journal.Kinds.{number_of}
-use Rattle.dsql_laws.specs.journal.Readers.{went_bad}
 use Rattle.dsql_laws.specs.pool.declared.conn.Place.{Place}
 use Rattle.dsql_laws.specs.pool.declared.conn.Place.TheVariants.{Lent}
 use Rattle.dsql_laws.specs.works.declared.work.Aim.{Aim}
@@ -30,13 +29,12 @@ use Rattle.dsql_laws.specs.history.declared.work.Scope.{Scope}
 use Rattle.dsql_laws.specs.history.declared.work.Scope.TheVariants.{Db, Tx}
 use Rattle.dsql_laws.specs.history.declared.work.Work.{Work}
 use Rattle.dsql_laws.specs.history.declared.work.Work.TheVariants as works
-use Rattle.dsql_laws.specs.history.Readers.Course.{caps}
 use Rattle.dsql_laws.specs.history.Readers.Works.{work, scope, borrower}
-use Rattle.dsql_laws.specs.history.Readers.Journals.{journal, heard_in}
+use Rattle.dsql_laws.specs.history.Readers.Journals.{heard_in}
 use Rattle.dsql_laws.specs.history.Readers.Pool.{place}
 use Rattle.dsql_laws.specs.history.Readers.Lines.{line_in}
 use Rattle.dsql_laws.specs.history.Readers.Calls.{site}
-use Rattle.dsql_laws.specs.history.Rules.Sent.{is_reset_due, asked_by, untested, inner_after, begin_after, begin_line, line_with, line_at, line_of}
+use Rattle.dsql_laws.specs.history.Rules.Sent.{untested, begin_after, begin_line, Sender, sender, line_for, line_with, line_at, line_of}
 use Rattle.dsql_laws.specs.history.Rules.Line.{is_due}
 
 -- Is true if the driver call neither begins nor ends a transaction.
@@ -140,15 +138,15 @@ abbrev pub begins : Work → Bool
 begins (works.Begin label level read_only) = true
 begins w = false
 
-with_plain : (H : List Event) (n c : ℕ) (bad : Bool) (w : Wish) (it : Work) (s : Scope) (L : List Entry) → begins it ≡ false → is_plain (line_with H n c bad w it s L) ≡ true
-with_plain H n c bad w (works.Begin label level read_only) s L not_begin = absurd cc
-with_plain H n c bad w it Db L not_begin = line_plain (caps H) (is_reset_due H c) (asked_by H n) w L
-with_plain H n c bad w it (Tx k) L not_begin = inner_plain (untested (caps H)) bad (asked_by H n) w (exchanges L) (handed (asked_by H n).aim (exchanges L))
+with_plain : (S : Sender) (it : Work) (s : Scope) (L : List Entry) → begins it ≡ false → is_plain (line_for it s S L) ≡ true
+with_plain S (works.Begin label level read_only) s L not_begin = absurd cc
+with_plain S it Db L not_begin = line_plain S.can S.reset_due S.asked S.wish L
+with_plain S it (Tx k) L not_begin = inner_plain (untested S.can) S.bad S.asked S.wish (exchanges L) (handed S.asked.aim (exchanges L))
 
 at_plain : (H : List Event) (n : ℕ) (w : Wish) (c : ℕ) (at : Option Place) → begins (work H n) ≡ false → is_plain (line_at H n w c at) ≡ true
 at_plain H n w c (Some (Lent t o)) not_begin =
-    let line = line_with H n c (went_bad (journal H c)) w (work H n) (scope (work H n)) (line_in o n (heard_in H c t)) in
-    either_plain (number_of o == borrower H n) line None (with_plain H n c (went_bad (journal H c)) w (work H n) (scope (work H n)) (line_in o n (heard_in H c t)) not_begin) refl
+    let L = line_in o n (heard_in H c t) in
+    either_plain (number_of o == borrower H n) (line_with (sender H n c w) L) None (with_plain (sender H n c w) (work H n) (scope (work H n)) L not_begin) refl
 at_plain H n w c _ not_begin = refl
 
 pub line_of_plain : (H : List Event) (n : ℕ) (w : Wish) → begins (work H n) ≡ false → is_plain (line_of H n w) ≡ true
@@ -167,14 +165,15 @@ begin_ends can reset level read_only (e ∷ earlier) =
     (either_ends (is_begin e.call) (cond (is_done e.answer) None (test_of can)) (Some (Begin level read_only))
     (either_ends (is_done e.answer) None (test_of can) refl (plain_ends (test_of can) (test_plain can))) refl)
 
-pub with_ends : (H : List Event) (n c : ℕ) (bad : Bool) (w : Wish) (it : Work) (s : Scope) (L : List Entry) → ends_none (line_with H n c bad w it s L) ≡ true
-with_ends H n c bad w (works.Begin label level read_only) s L = begin_ends (caps H) (is_reset_due H c) level read_only L
-with_ends H n c bad w it Db L = let l = line_after (caps H) (is_reset_due H c) (asked_by H n) w L in plain_ends l (line_plain (caps H) (is_reset_due H c) (asked_by H n) w L)
-with_ends H n c bad w it (Tx k) L =
-    plain_ends (inner_after (caps H) bad (asked_by H n) w L) (inner_plain (untested (caps H)) bad (asked_by H n) w (exchanges L) (handed (asked_by H n).aim (exchanges L)))
+for_ends : (S : Sender) (it : Work) (s : Scope) (L : List Entry) → ends_none (line_for it s S L) ≡ true
+for_ends S (works.Begin label level read_only) s L = begin_ends S.can S.reset_due level read_only L
+for_ends S it s L = plain_ends (line_for it s S L) (with_plain S it s L refl)
+
+pub with_ends : (S : Sender) (L : List Entry) → ends_none (line_with S L) ≡ true
+with_ends S L = for_ends S S.work (scope S.work) L
 
 pub at_ends : (H : List Event) (n : ℕ) (w : Wish) (c : ℕ) (at : Option Place) → ends_none (line_at H n w c at) ≡ true
 at_ends H n w c (Some (Lent t o)) =
-    let line = line_with H n c (went_bad (journal H c)) w (work H n) (scope (work H n)) (line_in o n (heard_in H c t)) in
-    either_ends (number_of o == borrower H n) line None (with_ends H n c (went_bad (journal H c)) w (work H n) (scope (work H n)) (line_in o n (heard_in H c t))) refl
+    let L = line_in o n (heard_in H c t) in
+    either_ends (number_of o == borrower H n) (line_with (sender H n c w) L) None (with_ends (sender H n c w) L) refl
 at_ends H n w c _ = refl

@@ -27,7 +27,7 @@ use Rattle.dsql_laws.specs.history.Readers.Journals.{journal, heard_in}
 use Rattle.dsql_laws.specs.history.Readers.Lines.{is_about, line_among, line_in, has_sent}
 use Rattle.dsql_laws.specs.history.Readers.Pool.{place}
 use Rattle.dsql_laws.specs.history.Readers.Transactions.{is_begun, is_over}
-use Rattle.dsql_laws.specs.history.Rules.Sent.{is_reset_due, asked_by, inner_after, untested}
+use Rattle.dsql_laws.specs.history.Rules.Sent.{is_reset_due, asked_by, inner_after, untested, sender}
 use Rattle.dsql_laws.specs.history.Rules.Line.{is_due, may_come, sends_from}
 use Rattle.dsql_laws.specs.history.Legal.{Lawful, Allowed}
 use Rattle.dsql_laws_calls.proofs.Owners.{lent_asks}
@@ -318,7 +318,7 @@ going_own H e c t own m l p its way before = by way.left
     not_call = begin_owner H c t own l.0 p.lent (begun_begins H (number_of own) l.0 p.begun)
 
     unending : is_ending e.call ≡ false
-    unending = no_ending_due (line_there H c t own m wishes.Nothing) e.call (with_ends H m c (went_bad (journal H c)) wishes.Nothing (work H m) (scope (work H m)) (line_in own m (heard_in H c t))) way.due
+    unending = no_ending_due (line_there H c t own m wishes.Nothing) e.call (with_ends (sender H m c wishes.Nothing) (line_in own m (heard_in H c t))) way.due
 
     some_line : is_some (inner_after (caps H) (went_bad (journal H c)) (asked_by H m) wishes.Nothing (line_among m (heard_in H c t))) ≡ true
     some_line =

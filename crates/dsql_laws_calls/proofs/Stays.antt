@@ -8,14 +8,14 @@ use Rattle.dsql_laws.specs.pool.Pooled.{without}
 use Rattle.dsql_laws.specs.works.declared.work.Aim.{Aim}
 use Rattle.dsql_laws.specs.works.Line.{Asked}
 use Rattle.dsql_laws_work.proofs.Rows.{read_set, row_old, within_rows, has_push}
-use Rattle.dsql_laws.specs.history.Readers.Tries.{try_number, tries, tries_again}
+use Rattle.dsql_laws.specs.history.Readers.Tries.{try_number, tries}
 use Rattle.dsql_laws.specs.history.declared.work.Work.{Work}
 use Rattle.dsql_laws.specs.history.declared.work.Work.TheVariants.{Look}
 use Rattle.dsql_laws.specs.history.Readers.Works.{asks, aim_of, works, work, work_of}
 use Rattle.dsql_laws.specs.history.declared.event.Event.{Event}
 use Rattle.dsql_laws.specs.history.declared.event.Event.TheVariants.{Entered, Heard, Replied}
 use Rattle.dsql_laws.specs.history.declared.record.CallRecord.{CallRecord}
-use Rattle.dsql_laws.specs.history.Readers.Calls.{calls, call_record, nobody, with_record, entering, decided_by}
+use Rattle.dsql_laws.specs.history.Readers.Calls.{calls, call_record, nobody, with_record, entering, trying, decided_by}
 use Rattle.dsql_laws.specs.history.Readers.Decisions.{decision}
 use Rattle.dsql_laws.specs.history.Readers.Unfinished.{unfinished, is_unfinished}
 use Rattle.dsql_laws.specs.history.Rules.Sent.{asked_by}
@@ -62,7 +62,7 @@ asked_row cs m n f aim k =
 
 stated_heard : (number : ℕ) (it : Work) (e : Entry) (aim : Aim) (r : CallRecord) → stated (decided_by number it e r) aim ≡ stated r aim
 stated_heard number it e aim r =
-    elim (e.call_no == 0) as (λ b. stated (cond b r (record r { decided = decision (tries_again it number) number (length r.params) it e.call e.answer r.decided })) aim ≡ stated r aim) [ true ↦ refl | false ↦ refl ]
+    elim (e.call_no == 0) as (λ b. stated (cond b r (record r { decided = decision (trying number it r) e.call e.answer r.decided })) aim ≡ stated r aim) [ true ↦ refl | false ↦ refl ]
 
 stated_same : (r s : CallRecord) (x y : Work) → r ≡ s → x ≡ y → stated r (aim_of x) ≡ stated s (aim_of y)
 stated_same r s x y same is = rw (same, is) refl

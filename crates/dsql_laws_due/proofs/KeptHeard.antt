@@ -39,7 +39,7 @@ use Rattle.dsql_laws_calls.specs.history.Readers.Transactions.{is_begun, is_over
 use Rattle.dsql_laws_calls.specs.history.Readers.Unfinished.{is_unfinished}
 use Rattle.dsql_laws_calls.specs.history.Readers.Works.{aim_of, hands_out_in, is_in, scope, work}
 use Rattle.dsql_laws_calls.specs.history.Rules.Line.{is_due, may_come, sends_from}
-use Rattle.dsql_laws_calls.specs.history.Rules.Sent.{asked_by, begin_line, is_reset_due}
+use Rattle.dsql_laws_calls.specs.history.Rules.Sent.{asked_by, begin_line, is_reset_due, sender}
 use Rattle.dsql_laws_calls.specs.history.Legal.{Lawful}
 use Rattle.dsql_laws_tenures.specs.Begins.{is_begin_line}
 use Rattle.dsql_laws_tenures.specs.Sent.{KeepsLines}
@@ -403,7 +403,7 @@ module _ (H : List Event) (e : Entry) (l : Lawful (Heard e ∷ H)) (s : Sound H)
       begin_ending : (w : BeginsWay H e.conn e.tenure own e.call_no e.call) → is_ending e.call ≡ false
       begin_ending w =
           no_ending_due (line_there H e.conn e.tenure own (number_of own) wishes.Nothing) e.call
-          (with_ends H (number_of own) e.conn (went_bad (journal H e.conn)) wishes.Nothing (work H (number_of own)) (scope (work H (number_of own))) (line_in own (number_of own) (heard_in H e.conn e.tenure))) w.due
+          (with_ends (sender H (number_of own) e.conn wishes.Nothing) (line_in own (number_of own) (heard_in H e.conn e.tenure))) w.due
 
       by : Came H e.conn e.tenure own e.call_no e.call → AllShut e.tenure (e ∷ journal H e.conn)
       by (inl w) = clash (sym (second (is_ending e.call) (ended_there (heard_in H e.conn e.tenure)) (begin_ending w) ended_so) ∙ unended w.unbegun)

@@ -1,6 +1,6 @@
 -- A call keeps its client, and a client has at most one unfinished call: both are shown by induction on the
 -- history.
-use Rattle.std.proofs.Common.{◌≡◌, ◌≢◌, ◌↔◌, ℕ, ◌<◌, ◌≤◌, ◌==◌, ◌⊎◌, inl, inr, Bool, true, false, not, cond, List, [], ◌∷◌, ◌++◌, length, None, refl, sym, ap, ◌∙◌, arith}
+use Rattle.std.proofs.Common.{◌≡◌, ◌≢◌, ◌↔◌, ℕ, ◌<◌, ◌≤◌, ◌==◌, ◌⊎◌, inl, inr, Bool, true, false, not, cond, List, [], ◌∷◌, ◌++◌, None, refl, sym, ap, ◌∙◌, arith}
 use Rattle.std.specs.Prelude.{slice_index_or}
 use Rattle.std.proofs.lemmas.List.{length-append}
 use Rattle.dsql_laws_calls.specs.journal.declared.entry.Entry.{Entry}
@@ -9,10 +9,10 @@ use Rattle.dsql_laws_calls.specs.history.declared.event.Event.{Event}
 use Rattle.dsql_laws_calls.specs.history.declared.event.Event.TheVariants.{Entered, Heard, Replied}
 use Rattle.dsql_laws_calls.specs.history.declared.event.Op.{Op}
 use Rattle.dsql_laws_calls.specs.history.declared.record.CallRecord.{CallRecord}
-use Rattle.dsql_laws_calls.specs.history.Readers.Calls.{calls, decided_by, entering, is_busy, next_call, nobody, with_record}
+use Rattle.dsql_laws_calls.specs.history.Readers.Calls.{calls, decided_by, entering, is_busy, next_call, nobody, with_record, trying}
 use Rattle.dsql_laws_calls.specs.history.Readers.Clients.{call_of, client_of, is_free}
 use Rattle.dsql_laws_calls.specs.history.Readers.Pool.{or_none}
-use Rattle.dsql_laws_calls.specs.history.Readers.Tries.{tries, tries_again, try_number}
+use Rattle.dsql_laws_calls.specs.history.Readers.Tries.{tries, try_number}
 use Rattle.dsql_laws_calls.specs.history.Readers.Decisions.{decision}
 use Rattle.dsql_laws_calls.specs.history.Readers.Unfinished.{is_unfinished, unfinished}
 use Rattle.dsql_laws_calls.specs.history.Readers.Works.{work}
@@ -38,7 +38,7 @@ with_client xs n m f keeps = elim (read_set xs n (f (slice_index_or xs n nobody)
 
 decided_client : (number : ℕ) (it : Work) (e : Entry) (r : CallRecord) → (decided_by number it e r).client ≡ r.client
 decided_client number it e r =
-    elim (e.call_no == 0) as (λ b. (cond b r (record r { decided = decision (tries_again it number) number (length r.params) it e.call e.answer r.decided })).client ≡ r.client) [ true ↦ refl | false ↦ refl ]
+    elim (e.call_no == 0) as (λ b. (cond b r (record r { decided = decision (trying number it r) e.call e.answer r.decided })).client ≡ r.client) [ true ↦ refl | false ↦ refl ]
 
 pub same_client : (H : List Event) (e : Event) (m : ℕ) → is_entry e ≡ false → client_of (e ∷ H) m ≡ client_of H m
 same_client H (Entered client n op) m h = absurd cc

@@ -8,10 +8,10 @@ use Rattle.dsql_laws_calls.specs.history.declared.event.Event.{Event}
 use Rattle.dsql_laws_calls.specs.history.declared.event.Event.TheVariants.{Entered, Heard, Pool, Waits, Replied}
 use Rattle.dsql_laws_calls.specs.history.declared.event.Op.{Op}
 use Rattle.dsql_laws_calls.specs.history.declared.record.CallRecord.{CallRecord}
-use Rattle.dsql_laws_calls.specs.history.Readers.Calls.{calls, decided_by, nobody, with_record}
+use Rattle.dsql_laws_calls.specs.history.Readers.Calls.{calls, decided_by, nobody, with_record, trying}
 use Rattle.dsql_laws_calls.specs.history.Readers.Clients.{call_of, client_of, is_free, made_by}
 use Rattle.dsql_laws_calls.specs.history.Readers.Pool.{or_none}
-use Rattle.dsql_laws_calls.specs.history.Readers.Tries.{tries, tries_again, try_number}
+use Rattle.dsql_laws_calls.specs.history.Readers.Tries.{tries, try_number}
 use Rattle.dsql_laws_calls.specs.history.Readers.Decisions.{decision}
 use Rattle.dsql_laws_calls.specs.history.Readers.Unfinished.{is_unfinished, unfinished}
 use Rattle.dsql_laws_calls.specs.history.Readers.Works.{work}
@@ -57,7 +57,7 @@ with_client xs n m f keeps = elim (read_set xs n (f (slice_index_or xs n nobody)
 
 decided_client : (number : ℕ) (it : Work) (e : Entry) (r : CallRecord) → (decided_by number it e r).client ≡ r.client
 decided_client number it e r =
-    elim (e.call_no == 0) as (λ b. (cond b r (record r { decided = decision (tries_again it number) number (length r.params) it e.call e.answer r.decided })).client ≡ r.client) [ true ↦ refl | false ↦ refl ]
+    elim (e.call_no == 0) as (λ b. (cond b r (record r { decided = decision (trying number it r) e.call e.answer r.decided })).client ≡ r.client) [ true ↦ refl | false ↦ refl ]
 
 heard_client : (H : List Event) (e : Entry) (n : ℕ) → client_of (Heard e ∷ H) n ≡ client_of H n
 heard_client H e n = with_client (calls H) e.call_no n (decided_by (try_number (tries H e.call_no)) (work H e.call_no) e) (decided_client (try_number (tries H e.call_no)) (work H e.call_no) e)

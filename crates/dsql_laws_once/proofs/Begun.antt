@@ -1,6 +1,6 @@
 -- A `Begin` that a server may have carried out is never sent again. Its answer settles the call's reply, and
 -- from then on the call only tests its connection.
-use Rattle.std.proofs.Common.{◌≡◌, ◌≢◌, ℕ, ◌+◌, ◌≤◌, ◌==◌, ◌⊎◌, inl, inr, Bool, true, false, not, ◌&&◌, ◌||◌, cond, List, [], ◌∷◌, length, Option, Some, None, is_some, refl, sym, ap, subst, ◌∙◌, arith}
+use Rattle.std.proofs.Common.{◌≡◌, ◌≢◌, ℕ, ◌+◌, ◌≤◌, ◌==◌, ◌⊎◌, inl, inr, Bool, true, false, not, ◌&&◌, ◌||◌, cond, List, [], ◌∷◌, Option, Some, None, is_some, refl, sym, ap, subst, ◌∙◌, arith}
 use Rattle.dsql_laws_calls.specs.driver.Fits.{fits_of, is_done, is_memory}
 use Rattle.dsql_laws_calls.specs.driver.Kinds.{is_bad, is_begin, is_valid}
 use Rattle.dsql_laws_calls.specs.driver.declared.answer.DriverAnswer.{DriverAnswer}
@@ -16,15 +16,13 @@ use Rattle.dsql_laws_calls.specs.journal.Kinds.{number_of}
 use Rattle.dsql_laws_calls.specs.pool.declared.conn.Place.TheVariants.{Lent}
 use Rattle.dsql_laws_calls.specs.works.Exchanges.{exchanges}
 use Rattle.dsql_laws_calls.proofs.laws_work.Rows.{same_or_not}
-use Rattle.dsql_laws_calls.specs.history.Readers.Tries.{try_number, tries, tries_again}
 use Rattle.dsql_laws_calls.proofs.laws.Tests.{both, same_itself, same_number, other_number}
 use Rattle.dsql_laws_calls.specs.history.declared.event.Event.{Event}
 use Rattle.dsql_laws_calls.specs.history.declared.event.Event.TheVariants.{Entered, Heard}
 use Rattle.dsql_laws_calls.specs.history.declared.reply.Reply.{Reply}
-use Rattle.dsql_laws_calls.specs.history.declared.work.Work.{Work}
-use Rattle.dsql_laws_calls.specs.history.Readers.Calls.{call_record, decided}
+use Rattle.dsql_laws_calls.specs.history.Readers.Calls.{decided}
 use Rattle.dsql_laws_calls.specs.history.Readers.Course.{caps}
-use Rattle.dsql_laws_calls.specs.history.Readers.Decisions.{decision}
+use Rattle.dsql_laws_calls.specs.history.Readers.Decisions.{decision, Trying}
 use Rattle.dsql_laws_calls.specs.history.Readers.Journals.{heard_in}
 use Rattle.dsql_laws_calls.specs.history.Readers.Lines.{is_about, line_among}
 use Rattle.dsql_laws_calls.specs.history.Readers.Pool.{place}
@@ -39,7 +37,7 @@ use Rattle.dsql_laws_calls.proofs.LineParts.{about_none, grows, grows_own}
 use Rattle.dsql_laws_calls.proofs.Looks.{heard_there}
 use Rattle.dsql_laws_calls.proofs.Own.{OwnWay}
 use Rattle.dsql_laws_calls.proofs.Plain.{begins}
-use Rattle.dsql_laws_replies.proofs.Records.{fitting}
+use Rattle.dsql_laws_replies.proofs.Records.{fitting, trying_of}
 use Rattle.dsql_laws_once.specs.Transactions.{may_have_begun, begun_by}
 use Rattle.dsql_laws_once.proofs.Once.{nat_case, zero_or}
 use Rattle.dsql_laws_once.proofs.Spent.{Spent, StaysPast, never, settled_by, spent_beside, spent_now, spent_on}
@@ -82,15 +80,15 @@ either_over false b (inr h) = h
 
 -- The answer to the `Begin` settles the reply, and the test leaves it settled.
 
-begin_decides : (again : Bool) (number count : ℕ) (it : Work) (q : DriverCall) (a : DriverAnswer) (d : Option Reply) → is_begin q ≡ true → fits_of q a ≡ true → is_memory a ≡ false → is_bad a ≡ false → is_some (decision again number count it q a d) ≡ true
-begin_decides again number count it (calls.Begin level read_only) Done d begin fit heard good = refl
-begin_decides again number count it (calls.Begin level read_only) (Fail why) d begin fit heard good = refl
-begin_decides again number count it (calls.Begin level read_only) a d begin fit heard good = absurd cc
-begin_decides again number count it q a d begin fit heard good = absurd cc
+begin_decides : (t : Trying) (q : DriverCall) (a : DriverAnswer) (d : Option Reply) → is_begin q ≡ true → fits_of q a ≡ true → is_memory a ≡ false → is_bad a ≡ false → is_some (decision t q a d) ≡ true
+begin_decides t (calls.Begin level read_only) Done d begin fit heard good = refl
+begin_decides t (calls.Begin level read_only) (Fail why) d begin fit heard good = refl
+begin_decides t (calls.Begin level read_only) a d begin fit heard good = absurd cc
+begin_decides t q a d begin fit heard good = absurd cc
 
-test_keeps : (again : Bool) (number count : ℕ) (it : Work) (q : DriverCall) (a : DriverAnswer) (d : Option Reply) → is_valid q ≡ true → is_some d ≡ true → is_some (decision again number count it q a d) ≡ true
-test_keeps again number count it calls.Valid a d valid h = h
-test_keeps again number count it q a d valid h = absurd cc
+test_keeps : (t : Trying) (q : DriverCall) (a : DriverAnswer) (d : Option Reply) → is_valid q ≡ true → is_some d ≡ true → is_some (decision t q a d) ≡ true
+test_keeps t calls.Valid a d valid h = h
+test_keeps t q a d valid h = absurd cc
 
 -- What is heard in the begin's tenure.
 
@@ -195,7 +193,7 @@ heard_own H e l begin o = by (may_have_begun e) refl
           few = let none = none_before H e l begin o x.0 in omega (arith, counted, none);
           spent = λ out.
               spent_so (inl x.0)
-              (begin_decides (tries_again (work H n) (try_number (tries H n))) (try_number (tries H n)) (length (call_record H n).params) (work H n) e.call e.answer (decided H n) x.0 fits.0 fits.1 (not_bad (is_bad e.answer) x.1));
+              (begin_decides (trying_of H n) e.call e.answer (decided H n) x.0 fits.0 fits.1 (not_bad (is_bad e.answer) x.1));
         }
     by false idle =
         let counted : begun_by (Heard e ∷ H) n ≡ begun_by H n = count_same H e ∙ ap (λ b. cond b (begun_by H n + 1) (begun_by H n)) idle in
@@ -206,7 +204,7 @@ heard_own H e l begin o = by (may_have_begun e) refl
               let w = s.way in
               let valid = still_tests H e l s was in
               spent_so (inr valid)
-              (test_keeps (tries_again (work H n) (try_number (tries H n))) (try_number (tries H n)) (length (call_record H n).params) (work H n) e.call e.answer (decided H n) valid (was.settled w.unfinished));
+              (test_keeps (trying_of H n) e.call e.answer (decided H n) valid (was.settled w.unfinished));
         }
 
 once_heard : (H : List Event) (e : Entry) (n : ℕ) → Lawful (Heard e ∷ H) → begins (work H n) ≡ true → BegunOnce H n → BegunOnce (Heard e ∷ H) n

@@ -17,7 +17,6 @@ use Rattle.dsql_laws_calls.proofs.laws_work.Rows.{same_or_not}
 use Rattle.dsql_laws_calls.proofs.laws_work.CallLines.{step, goes, is_before_end}
 use Rattle.dsql_laws_calls.proofs.laws_work.MadeLines.{MadeAt}
 use Rattle.dsql_laws_calls.proofs.laws_work.HandedLines.{opens_rows}
-use Rattle.dsql_laws_calls.specs.history.Readers.Tries.{try_number, tries, tries_again}
 use Rattle.dsql_laws_calls.proofs.laws.Tests.{same_itself, other_number}
 use Rattle.dsql_laws_replies.proofs.Awaited.{is_one, needs_answer, awaits, awaited_due}
 use Rattle.dsql_laws_calls.specs.history.declared.event.Event.{Event}
@@ -25,7 +24,7 @@ use Rattle.dsql_laws_calls.specs.history.declared.event.Event.TheVariants.{Enter
 use Rattle.dsql_laws_calls.specs.history.declared.work.Scope.TheVariants.{Db}
 use Rattle.dsql_laws_calls.specs.history.declared.work.Work.{Work}
 use Rattle.dsql_laws_calls.specs.history.declared.work.Work.TheVariants.{ReadOne}
-use Rattle.dsql_laws_calls.specs.history.Readers.Calls.{call_record, decided}
+use Rattle.dsql_laws_calls.specs.history.Readers.Calls.{decided}
 use Rattle.dsql_laws_calls.specs.history.Readers.Course.{caps}
 use Rattle.dsql_laws_calls.specs.history.Readers.HandedOut.{rows_by}
 use Rattle.dsql_laws_calls.specs.history.Readers.Journals.{heard_in}
@@ -47,6 +46,7 @@ use Rattle.dsql_laws_calls.proofs.Plain.{begins}
 use Rattle.dsql_laws_calls.proofs.Stays.{not_looking, work_stays}
 use Rattle.dsql_laws_calls.proofs.UnderWay.{UnderWay}
 use Rattle.dsql_laws_calls.proofs.Why.{Why}
+use Rattle.dsql_laws_replies.proofs.Records.{trying_of}
 use Rattle.dsql_laws_replies.proofs.Awaiting.{plain_call, under_way as was_under_way}
 use Rattle.dsql_laws_once.specs.Once.{is_statement, may_be_carried_out, carried_out, reads_one}
 use Rattle.dsql_laws_once.specs.Counted.{is_query, fetches_from, loses_row, counted_with, counted}
@@ -199,7 +199,7 @@ one_counts H e l some u one carried = by (opens_rows e.call e.answer) refl
     by false closed =
         inl
         (spent_now (by_step is_before_row) H e u.owner l some u.lent u.number own (ends_row (step (heard_in H e.conn e.tenure)) e.call e.answer carried closed)
-        (carried_decides (tries_again (work H n) (try_number (tries H n))) (try_number (tries H n)) (length (call_record H n).params) (caps H) (asked_by H n).text (asked_by H n).params (work H n) wishes.Nothing (step (heard_in H e.conn e.tenure))
+        (carried_decides (trying_of H n) (caps H) (asked_by H n).text (asked_by H n).params (work H n) wishes.Nothing (step (heard_in H e.conn e.tenure))
         (exchanges (heard_in H e.conn e.tenure)) e.call e.answer (decided H n) own (λ opens. absurd (never (opens_rows e.call e.answer) opens closed)) u.sent carried))
 
 -- A spent call fetches no more, so it stays spent.
@@ -258,7 +258,7 @@ fetched H e q l some u one o kept = by (is_bad e.answer) refl
         (opened_query q.call q.answer o.opens) from) kept)
     by false good =
         spent_now (by_step is_before_row) H e u.owner l some u.lent u.number own (fetched_past (given_cursor q.answer) (step (heard_in H e.conn e.tenure)) e.call e.answer from)
-        (fetch_decides (given_cursor q.answer) (tries_again (work H n) (try_number (tries H n))) (try_number (tries H n)) (length (call_record H n).params) (caps H) (asked_by H n).text (asked_by H n).params (work H n) wishes.Nothing
+        (fetch_decides (given_cursor q.answer) (trying_of H n) (caps H) (asked_by H n).text (asked_by H n).params (work H n) wishes.Nothing
         (step (heard_in H e.conn e.tenure)) (exchanges (heard_in H e.conn e.tenure)) e.call e.answer (decided H n) own (one_plain (work H n) one) unfetching u.sent from good)
 
 one_filtered : (K : List Event) (n : ℕ) (test : Entry → Bool) (q : Entry) → (test q ≡ true → SpentRow K n) → Counts K n (filter test (q ∷ []))

@@ -8,7 +8,7 @@ use Rattle.dsql_laws_calls.specs.course.declared.course.Wish.TheVariants as wish
 use Rattle.dsql_laws_calls.specs.journal.declared.entry.Entry.{Entry}
 use Rattle.dsql_laws_calls.specs.journal.declared.entry.Owner.{Owner}
 use Rattle.dsql_laws_calls.specs.journal.Kinds.{is_call, number_of, same_owner}
-use Rattle.dsql_laws_calls.specs.journal.Readers.{of_tenure, went_bad}
+use Rattle.dsql_laws_calls.specs.journal.Readers.{of_tenure}
 use Rattle.dsql_laws_calls.specs.pool.Pooled.{next_tenure}
 use Rattle.dsql_laws_calls.specs.pool.declared.conn.Place.{Place}
 use Rattle.dsql_laws_calls.specs.pool.declared.conn.Place.TheVariants.{Closing, Idle, Lent, Opening}
@@ -20,13 +20,13 @@ use Rattle.dsql_laws_calls.specs.history.declared.event.Event.TheVariants.{Heard
 use Rattle.dsql_laws_calls.specs.history.declared.work.Scope.{Scope}
 use Rattle.dsql_laws_calls.specs.history.declared.work.Scope.TheVariants.{Db, Tx}
 use Rattle.dsql_laws_calls.specs.history.Readers.Course.{caps}
-use Rattle.dsql_laws_calls.specs.history.Readers.Journals.{heard_in, journal}
+use Rattle.dsql_laws_calls.specs.history.Readers.Journals.{heard_in}
 use Rattle.dsql_laws_calls.specs.history.Readers.Lines.{line_in}
 use Rattle.dsql_laws_calls.specs.history.Readers.Pool.{place, pool}
 use Rattle.dsql_laws_calls.specs.history.Readers.Transactions.{is_begun}
 use Rattle.dsql_laws_calls.specs.history.Readers.Works.{asks, scope, work}
 use Rattle.dsql_laws_calls.specs.history.Rules.Line.{is_due, may_come, sends_from}
-use Rattle.dsql_laws_calls.specs.history.Rules.Sent.{asked_by, is_reset_due}
+use Rattle.dsql_laws_calls.specs.history.Rules.Sent.{asked_by, is_reset_due, sender}
 use Rattle.dsql_laws_calls.specs.history.Legal.{Allowed, Lawful}
 use Rattle.dsql_laws_calls.proofs.Beginnings.{lent_once_begun}
 use Rattle.dsql_laws_calls.proofs.BeginningsAt.{beginnings, heard_more, heard_other, heard_same, is_answer}
@@ -82,7 +82,7 @@ ending_there H e a ending = let there = heard_there H e a in by (place H e.conn)
 -- No line of a call has an ending due.
 line_ends_none : (H : List Event) (c t : ℕ) (own : Owner) (n : ℕ) (q : DriverCall) → is_due (line_there H c t own n wishes.Nothing) q ≡ true → is_ending q ≡ false
 line_ends_none H c t own n q h =
-    no_ending_due (line_there H c t own n wishes.Nothing) q (with_ends H n c (went_bad (journal H c)) wishes.Nothing (work H n) (scope (work H n)) (line_in own n (heard_in H c t))) h
+    no_ending_due (line_there H c t own n wishes.Nothing) q (with_ends (sender H n c wishes.Nothing) (line_in own n (heard_in H c t))) h
 
 -- So an ending is sent by a call that ends a transaction, or by the layer.
 ending_other : (H : List Event) (e : Entry) → Lawful H → may_come H e ≡ true → is_ending e.call ≡ true → IsOther H e.call_no
@@ -130,7 +130,7 @@ ends_it H e l ending = of_owner (is_call e.owner) refl
     not_rows : RowsWay H e.conn e.tenure e.owner e.call_no e.call → is_ending e.call ≡ false
     not_rows w =
         no_ending_due (line_there H e.conn e.tenure e.owner w.n w.wish) e.call
-        (with_ends H w.n e.conn (went_bad (journal H e.conn)) w.wish (work H w.n) (scope (work H w.n)) (line_in e.owner w.n (heard_in H e.conn e.tenure))) w.due
+        (with_ends (sender H w.n e.conn w.wish) (line_in e.owner w.n (heard_in H e.conn e.tenure))) w.due
 
     of_tx : TxWay H e.conn e.tenure e.owner e.call_no e.call → EndsIt H e
     of_tx w = by w.way

@@ -1,19 +1,18 @@
 -- What a server may have carried out, in each lawful history, for a call on the database that doesn't read one
 -- row. After such a statement the call is spent.
-use Rattle.std.proofs.Common.{◌≡◌, ◌≢◌, ℕ, zero, suc, ◌+◌, ◌≤◌, ◌⊎◌, inl, inr, Bool, true, false, ◌&&◌, cond, List, [], ◌∷◌, length, refl, sym, ap, subst, ◌∙◌, arith}
+use Rattle.std.proofs.Common.{◌≡◌, ◌≢◌, ℕ, zero, suc, ◌+◌, ◌≤◌, ◌⊎◌, inl, inr, Bool, true, false, ◌&&◌, cond, List, [], ◌∷◌, refl, sym, ap, subst, ◌∙◌, arith}
 use Rattle.dsql_laws_calls.specs.journal.declared.entry.Entry.{Entry}
 use Rattle.dsql_laws_calls.specs.course.declared.course.Wish.TheVariants as wishes
 use Rattle.dsql_laws_calls.specs.works.Exchanges.{exchanges}
 use Rattle.dsql_laws_calls.proofs.laws_work.CallLines.{step, is_before_end}
 use Rattle.dsql_laws_calls.proofs.laws_work.Rows.{same_or_not}
-use Rattle.dsql_laws_calls.specs.history.Readers.Tries.{try_number, tries, tries_again}
 use Rattle.dsql_laws_calls.proofs.laws.Tests.{same_itself, other_number}
 use Rattle.dsql_laws_calls.specs.history.declared.event.Event.{Event}
 use Rattle.dsql_laws_calls.specs.history.declared.event.Event.TheVariants.{Heard}
 use Rattle.dsql_laws_calls.specs.history.declared.work.Scope.TheVariants.{Db}
 use Rattle.dsql_laws_calls.specs.history.declared.work.Work.{Work}
 use Rattle.dsql_laws_calls.specs.history.declared.work.Work.TheVariants.{Execute, HandOut, Ping}
-use Rattle.dsql_laws_calls.specs.history.Readers.Calls.{call_record, decided}
+use Rattle.dsql_laws_calls.specs.history.Readers.Calls.{decided}
 use Rattle.dsql_laws_calls.specs.history.Readers.Course.{caps}
 use Rattle.dsql_laws_calls.specs.history.Readers.Journals.{heard_in}
 use Rattle.dsql_laws_calls.specs.history.Readers.Works.{asks, work}
@@ -22,6 +21,7 @@ use Rattle.dsql_laws_calls.specs.history.Legal.{Lawful}
 use Rattle.dsql_laws_calls.proofs.BeginningsAt.{is_answer}
 use Rattle.dsql_laws_calls.proofs.Plain.{begins}
 use Rattle.dsql_laws_calls.proofs.Stays.{work_stays}
+use Rattle.dsql_laws_replies.proofs.Records.{trying_of}
 use Rattle.dsql_laws_once.specs.Once.{is_statement, may_be_carried_out, carried_out, reads_one}
 use Rattle.dsql_laws_once.proofs.Stated.{states_busy, statement_of, carried_states}
 use Rattle.dsql_laws_once.proofs.Steps.{sends_before_end, ends_it, stays_ended, carried_decides, untried_next}
@@ -114,7 +114,7 @@ heard_own H e l some alone o = by (may_be_carried_out e) refl
           few = let none = none_before H e l some alone o (statement_of e carried) in omega (arith, counted, none);
           spent = λ out.
               spent_now (by_step is_before_end) H e u.owner l some u.lent u.number asking (ends_it (step (heard_in H e.conn e.tenure)) e.call e.answer carried)
-              (carried_decides (tries_again (work H n) (try_number (tries H n))) (try_number (tries H n)) (length (call_record H n).params) (caps H) (asked_by H n).text (asked_by H n).params (work H n) wishes.Nothing (step (heard_in H e.conn e.tenure))
+              (carried_decides (trying_of H n) (caps H) (asked_by H n).text (asked_by H n).params (work H n) wishes.Nothing (step (heard_in H e.conn e.tenure))
               (exchanges (heard_in H e.conn e.tenure)) e.call e.answer (decided H n) asking (λ opens. one) u.sent carried);
         }
     by false idle =

@@ -27,7 +27,7 @@ use Rattle.dsql_laws_calls.specs.history.declared.reply.Reply.{Reply}
 use Rattle.dsql_laws_calls.specs.history.declared.work.Scope.TheVariants.{Db}
 use Rattle.dsql_laws_calls.specs.history.declared.work.Work.{Work}
 use Rattle.dsql_laws_calls.specs.history.declared.work.Work.TheVariants.{ReadOne}
-use Rattle.dsql_laws_calls.specs.history.Readers.Decisions.{decision}
+use Rattle.dsql_laws_calls.specs.history.Readers.Decisions.{decision, Trying}
 use Rattle.dsql_laws_calls.specs.history.Readers.Tries.{is_tried}
 use Rattle.dsql_laws_calls.specs.history.Readers.Works.{aim_of, asks}
 use Rattle.dsql_laws_calls.proofs.Plain.{begins}
@@ -158,7 +158,7 @@ fetching can reset text params aim w L rows one m g d = absurd cc
 unlost : (b c : Bool) → c ≡ false → (b && c) ≡ false
 unlost b c h = grind (arith, h)
 
-pub fetch_decides : (cursor : Option ℕ) (again : Bool) (number count : ℕ) (can : Caps) (text : List ℕ) (params : List Param) (it : Work) (w : Wish) (s : Step) (made : List Exchange) (q : DriverCall) (a : DriverAnswer) (d : Option Reply) → asks it ≡ true → begins it ≡ false
-    → (w ≡ wishes.Fetch → ⊥) → SentAt can (asking text params (aim_of it)) w s made q a → fetches_from cursor q ≡ true → is_bad a ≡ false → is_some (decision again number count it q a d) ≡ true
-fetch_decides cursor again number count can text params it w s made (Next rows) a d own plain fetch x from good = fetch_settles again number can text params it w s made rows a own plain fetch x (unlost (is_tried it (Next rows)) (is_bad a) good)
-fetch_decides cursor again number count can text params it w s made q a d own plain fetch x from good = absurd cc
+pub fetch_decides : (cursor : Option ℕ) (t : Trying) (can : Caps) (text : List ℕ) (params : List Param) (it : Work) (w : Wish) (s : Step) (made : List Exchange) (q : DriverCall) (a : DriverAnswer) (d : Option Reply) → asks it ≡ true → begins it ≡ false
+    → (w ≡ wishes.Fetch → ⊥) → SentAt can (asking text params (aim_of it)) w s made q a → fetches_from cursor q ≡ true → is_bad a ≡ false → is_some (decision (record t { work = it }) q a d) ≡ true
+fetch_decides cursor t can text params it w s made (Next rows) a d own plain fetch x from good = fetch_settles t.again t.number can text params it w s made rows a own plain fetch x (unlost (is_tried it (Next rows)) (is_bad a) good)
+fetch_decides cursor t can text params it w s made q a d own plain fetch x from good = absurd cc

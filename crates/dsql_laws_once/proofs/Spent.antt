@@ -1,5 +1,5 @@
 -- A spent call has settled its reply, and no event sets it to work again.
-use Rattle.std.proofs.Common.{◌≡◌, ◌≢◌, ℕ, ◌⊎◌, inl, inr, Bool, true, false, ◌&&◌, not, List, ◌∷◌, length, Some, is_some, refl, sym, ap, subst, ◌∙◌}
+use Rattle.std.proofs.Common.{◌≡◌, ◌≢◌, ℕ, ◌⊎◌, inl, inr, Bool, true, false, ◌&&◌, not, List, ◌∷◌, Some, is_some, refl, sym, ap, subst, ◌∙◌}
 use Rattle.dsql_laws_calls.specs.driver.Fits.{fits_of, is_memory}
 use Rattle.dsql_laws_calls.specs.driver.Kinds.{is_bad}
 use Rattle.dsql_laws_calls.specs.driver.declared.call.DriverCall.{DriverCall}
@@ -20,13 +20,13 @@ use Rattle.dsql_laws_calls.proofs.laws_work.CallLines.{Step, step, step_after, g
 use Rattle.dsql_laws_calls.proofs.laws_work.MadeLines.{MadeAt}
 use Rattle.dsql_laws_calls.proofs.laws_work.HandedLines.{SentAt, due_over}
 use Rattle.dsql_laws_calls.proofs.laws_work.Lines.{made_on, goes_due, sent_of}
-use Rattle.dsql_laws_calls.specs.history.Readers.Tries.{try_number, tries, tries_again, is_tried}
+use Rattle.dsql_laws_calls.specs.history.Readers.Tries.{is_tried}
 use Rattle.dsql_laws_calls.proofs.laws.Tests.{other_number, together}
 use Rattle.dsql_laws_calls.proofs.laws.Wanted.{wanted}
 use Rattle.dsql_laws_calls.specs.history.declared.event.Event.{Event}
 use Rattle.dsql_laws_calls.specs.history.declared.event.Event.TheVariants.{Heard, Pool}
 use Rattle.dsql_laws_calls.specs.history.declared.work.Work.TheVariants.{Look}
-use Rattle.dsql_laws_calls.specs.history.Readers.Calls.{call_record, decided}
+use Rattle.dsql_laws_calls.specs.history.Readers.Calls.{decided}
 use Rattle.dsql_laws_calls.specs.history.Readers.Course.{caps}
 use Rattle.dsql_laws_calls.specs.history.Readers.Decisions.{decision}
 use Rattle.dsql_laws_calls.specs.history.Readers.Journals.{heard_in}
@@ -53,7 +53,7 @@ use Rattle.dsql_laws_calls.proofs.Told.{asks_undecided}
 use Rattle.dsql_laws_calls.proofs.Wanted.{lent_nothing, lent_wants_none, wants_no_more}
 use Rattle.dsql_laws_calls.proofs.Works.{other_heard}
 use Rattle.dsql_laws_replies.proofs.Awaiting.{plain_call, under_way}
-use Rattle.dsql_laws_replies.proofs.Records.{fitting, own_record, record_stays}
+use Rattle.dsql_laws_replies.proofs.Records.{fitting, own_record, record_stays, trying_of}
 use Rattle.dsql_laws_once.proofs.Steps.{stays_decided}
 
 pub never : (b : Bool) → b ≡ true → b ≡ false → ⊥
@@ -112,8 +112,7 @@ spent_beside before H e n l stays apart s = record {
 -- Is true if the answer to the call itself settles its reply.
 abbrev pub settled_by : List Event → Entry → Bool
 settled_by H e =
-    is_some
-    (decision (tries_again (work H e.call_no) (try_number (tries H e.call_no))) (try_number (tries H e.call_no)) (length (call_record H e.call_no).params) (work H e.call_no) e.call e.answer (decided H e.call_no))
+    is_some (decision (trying_of H e.call_no) e.call e.answer (decided H e.call_no))
 
 -- An answer to the call itself leaves it spent if the answer settles the reply and the call is past its work.
 pub spent_now : (before : List Entry → Bool) (H : List Event) (e : Entry) (own : Owner) → Lawful (Heard e ∷ H) → e.call_no ≢ 0 → place H e.conn ≡ Some (Lent e.tenure own) → number_of own ≡ e.call_no → asks (work H e.call_no) ≡ true
@@ -250,5 +249,5 @@ spent_own before steps more H e l some asking unbegun u good s =
     let x = u.sent in
     let past = s.past_it e.conn e.tenure u.owner u.lent u.number in
     spent_now (by_step before) H e u.owner l some u.lent u.number asking (steps (step L) e.call e.answer x.next past)
-    (stays_decided (tries_again (work H n) (try_number (tries H n))) (try_number (tries H n)) (length (call_record H n).params) (caps H) (asked_by H n).text (asked_by H n).params (work H n) wishes.Nothing (step L) (exchanges L) e.call e.answer (decided H n) asking
+    (stays_decided (trying_of H n) (caps H) (asked_by H n).text (asked_by H n).params (work H n) wishes.Nothing (step L) (exchanges L) e.call e.answer (decided H n) asking
     unbegun (λ rows is. good rows past is) nothing_fetched x (more (step L) past) (s.settled u.unfinished))

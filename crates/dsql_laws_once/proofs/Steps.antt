@@ -17,7 +17,7 @@ use Rattle.dsql_laws_calls.specs.history.declared.reply.Reply.{Reply}
 use Rattle.dsql_laws_calls.specs.history.declared.work.Scope.TheVariants.{Db, Tx}
 use Rattle.dsql_laws_calls.specs.history.declared.work.Work.{Work}
 use Rattle.dsql_laws_calls.specs.history.declared.work.Work.TheVariants.{ReadOne, HandOut}
-use Rattle.dsql_laws_calls.specs.history.Readers.Decisions.{decision}
+use Rattle.dsql_laws_calls.specs.history.Readers.Decisions.{decision, Trying}
 use Rattle.dsql_laws_calls.specs.history.Readers.Tries.{is_tried}
 use Rattle.dsql_laws_calls.specs.history.Readers.Works.{aim_of, asks}
 use Rattle.dsql_laws_calls.proofs.laws_work.CallLines.{Step, Start, WasReset, WasSkipped, WasPrepared, HasRows, HasRead, WasRun, WasDone, step_after, goes, is_before_end, left_of}
@@ -81,40 +81,40 @@ impossible h = cc
 misfit : (fit memory : Bool) → fit ≡ true → memory ≡ false → fit && not memory ≡ true
 misfit fit memory h k = grind (arith, h, k)
 
-handed_decides : (again : Bool) (it : Work) (number count rows : ℕ) (columns : List (List ℕ)) (q : DriverCall) (d : Option Reply) → asks it ≡ true → reads_one it ≡ false → queries_it (aim_of it) ≡ true → (input : Input) (params : List Param)
-    → is_some (decision again number count it (Query input params) (Cursor rows columns) d) ≡ true
-handed_decides again (HandOut s label) number count rows columns q d own one reads input params = refl
-handed_decides again (ReadOne Db dests) number count rows columns q d own one reads input params = absurd cc
-handed_decides again (ReadOne (Tx k) dests) number count rows columns q d own one reads input params = absurd cc
-handed_decides again it number count rows columns q d own one reads input params = absurd cc
+handed_decides : (t : Trying) (it : Work) (rows : ℕ) (columns : List (List ℕ)) (q : DriverCall) (d : Option Reply) → asks it ≡ true → reads_one it ≡ false → queries_it (aim_of it) ≡ true → (input : Input) (params : List Param)
+    → is_some (decision (record t { work = it }) (Query input params) (Cursor rows columns) d) ≡ true
+handed_decides t (HandOut s label) rows columns q d own one reads input params = refl
+handed_decides t (ReadOne Db dests) rows columns q d own one reads input params = absurd cc
+handed_decides t (ReadOne (Tx k) dests) rows columns q d own one reads input params = absurd cc
+handed_decides t it rows columns q d own one reads input params = absurd cc
 
-pub carried_decides : (again : Bool) (number count : ℕ) (can : Caps) (text : List ℕ) (params : List Param) (it : Work) (w : Wish) (s : Step) (made : List Exchange) (q : DriverCall) (a : DriverAnswer) (d : Option Reply) → asks it ≡ true → (opens_rows q a ≡ true → reads_one it ≡ false)
-    → SentAt can (asking text params (aim_of it)) w s made q a → (is_statement q && not (is_bad a || is_skip a)) ≡ true → is_some (decision again number count it q a d) ≡ true
-carried_decides again number count can text params it w s made Ping Done d own one x h = refl
-carried_decides again number count can text params it w s made Ping (Fail why) d own one x h = refl
-carried_decides again number count can text params it w s made Ping Bad d own one x h = absurd cc
-carried_decides again number count can text params it w s made Ping _ d own one x h = absurd (impossible (misfit _ _ x.fit x.heard))
-carried_decides again number count can text params it w s made (Exec (Text t) ps) (Result last affected) d own one x h = refl
-carried_decides again number count can text params it w s made (Exec (Text t) ps) (Fail why) d own one x h = refl
-carried_decides again number count can text params it w s made (Exec (Text t) ps) Bad d own one x h = absurd cc
-carried_decides again number count can text params it w s made (Exec (Text t) ps) Skip d own one x h = absurd cc
-carried_decides again number count can text params it w s made (Exec (Text t) ps) _ d own one x h = absurd (impossible (misfit _ _ x.fit x.heard))
-carried_decides again number count can text params it w s made (Exec (Handle t) ps) (Result last affected) d own one x h = refl
-carried_decides again number count can text params it w s made (Exec (Handle t) ps) (Fail why) d own one x h = refl
-carried_decides again number count can text params it w s made (Exec (Handle t) ps) Bad d own one x h = absurd cc
-carried_decides again number count can text params it w s made (Exec (Handle t) ps) _ d own one x h = absurd (impossible (misfit _ _ x.fit x.heard))
-carried_decides again number count can text params it w s made (Query input ps) (Cursor rows columns) d own one x h =
-    handed_decides again it number count rows columns (Query input ps) d own (one refl) (opened_reads can (asking text params (aim_of it)) s made input ps rows columns x.after) input ps
-carried_decides again number count can text params it w s made (Query input ps) (Fail why) d own one x h = failed it
+pub carried_decides : (t : Trying) (can : Caps) (text : List ℕ) (params : List Param) (it : Work) (w : Wish) (s : Step) (made : List Exchange) (q : DriverCall) (a : DriverAnswer) (d : Option Reply) → asks it ≡ true → (opens_rows q a ≡ true → reads_one it ≡ false)
+    → SentAt can (asking text params (aim_of it)) w s made q a → (is_statement q && not (is_bad a || is_skip a)) ≡ true → is_some (decision (record t { work = it }) q a d) ≡ true
+carried_decides t can text params it w s made Ping Done d own one x h = refl
+carried_decides t can text params it w s made Ping (Fail why) d own one x h = refl
+carried_decides t can text params it w s made Ping Bad d own one x h = absurd cc
+carried_decides t can text params it w s made Ping _ d own one x h = absurd (impossible (misfit _ _ x.fit x.heard))
+carried_decides t can text params it w s made (Exec (Text u) ps) (Result last affected) d own one x h = refl
+carried_decides t can text params it w s made (Exec (Text u) ps) (Fail why) d own one x h = refl
+carried_decides t can text params it w s made (Exec (Text u) ps) Bad d own one x h = absurd cc
+carried_decides t can text params it w s made (Exec (Text u) ps) Skip d own one x h = absurd cc
+carried_decides t can text params it w s made (Exec (Text u) ps) _ d own one x h = absurd (impossible (misfit _ _ x.fit x.heard))
+carried_decides t can text params it w s made (Exec (Handle u) ps) (Result last affected) d own one x h = refl
+carried_decides t can text params it w s made (Exec (Handle u) ps) (Fail why) d own one x h = refl
+carried_decides t can text params it w s made (Exec (Handle u) ps) Bad d own one x h = absurd cc
+carried_decides t can text params it w s made (Exec (Handle u) ps) _ d own one x h = absurd (impossible (misfit _ _ x.fit x.heard))
+carried_decides t can text params it w s made (Query input ps) (Cursor rows columns) d own one x h =
+    handed_decides t it rows columns (Query input ps) d own (one refl) (opened_reads can (asking text params (aim_of it)) s made input ps rows columns x.after) input ps
+carried_decides t can text params it w s made (Query input ps) (Fail why) d own one x h = failed it
   where
-    failed : (jt : Work) → is_some (decision again number count jt (Query input ps) (Fail why) d) ≡ true
+    failed : (jt : Work) → is_some (decision (record t { work = jt }) (Query input ps) (Fail why) d) ≡ true
     failed (HandOut scope label) = refl
     failed jt = refl
-carried_decides again number count can text params it w s made (Query input ps) Bad d own one x h = absurd cc
-carried_decides again number count can text params it w s made (Query (Text t) ps) Skip d own one x h = absurd cc
-carried_decides again number count can text params it w s made (Query (Text t) ps) _ d own one x h = absurd (impossible (misfit _ _ x.fit x.heard))
-carried_decides again number count can text params it w s made (Query (Handle t) ps) _ d own one x h = absurd (impossible (misfit _ _ x.fit x.heard))
-carried_decides again number count can text params it w s made _ a d own one x h = absurd cc
+carried_decides t can text params it w s made (Query input ps) Bad d own one x h = absurd cc
+carried_decides t can text params it w s made (Query (Text u) ps) Skip d own one x h = absurd cc
+carried_decides t can text params it w s made (Query (Text u) ps) _ d own one x h = absurd (impossible (misfit _ _ x.fit x.heard))
+carried_decides t can text params it w s made (Query (Handle u) ps) _ d own one x h = absurd (impossible (misfit _ _ x.fit x.heard))
+carried_decides t can text params it w s made _ a d own one x h = absurd cc
 
 -- What may be sent after that.
 
@@ -144,15 +144,15 @@ untried_next (ReadOne Db dests) rows a own one = absurd cc
 untried_next (ReadOne (Tx k) dests) rows a own one = absurd cc
 untried_next it rows a own one = refl
 
-pub stays_decided : (again : Bool) (number count : ℕ) (can : Caps) (text : List ℕ) (params : List Param) (it : Work) (w : Wish) (s : Step) (made : List Exchange) (q : DriverCall) (a : DriverAnswer) (d : Option Reply) → asks it ≡ true → begins it ≡ false
-    → ((rows : ℕ) → q ≡ Next rows → (is_tried it (Next rows) && is_bad a) ≡ false) → (w ≡ wishes.Fetch → ⊥) → SentAt can (asking text params (aim_of it)) w s made q a → is_before_end s ≡ false → is_some d ≡ true → is_some (decision again number count it q a d) ≡ true
-stays_decided again number count can text params it w s made (Next rows) a d own plain good fetch x over h = fetch_settles again number can text params it w s made rows a own plain fetch x (good rows refl)
-stays_decided again number count can text params it w s made (CloseRows rows) a d own plain good fetch x over h = close_keeps number it a d own h
-stays_decided again number count can text params it w s made (CloseStmt handle) a d own plain good fetch x over h = h
-stays_decided again number count can text params it w s made Valid a d own plain good fetch x over h = h
-stays_decided again number count can text params it w s made Reset a d own plain good fetch x over h = absurd (not_late Reset refl (late_only s Reset x.next over))
-stays_decided again number count can text params it w s made Ping a d own plain good fetch x over h = absurd (not_late Ping refl (late_only s Ping x.next over))
-stays_decided again number count can text params it w s made (Prepare t) a d own plain good fetch x over h = absurd (not_late (Prepare t) refl (late_only s (Prepare t) x.next over))
-stays_decided again number count can text params it w s made (Exec input ps) a d own plain good fetch x over h = absurd (not_late (Exec input ps) refl (late_only s (Exec input ps) x.next over))
-stays_decided again number count can text params it w s made (Query input ps) a d own plain good fetch x over h = absurd (not_late (Query input ps) refl (late_only s (Query input ps) x.next over))
-stays_decided again number count can text params it w s made _ a d own plain good fetch x over h = absurd (impossible x.sent)
+pub stays_decided : (t : Trying) (can : Caps) (text : List ℕ) (params : List Param) (it : Work) (w : Wish) (s : Step) (made : List Exchange) (q : DriverCall) (a : DriverAnswer) (d : Option Reply) → asks it ≡ true → begins it ≡ false
+    → ((rows : ℕ) → q ≡ Next rows → (is_tried it (Next rows) && is_bad a) ≡ false) → (w ≡ wishes.Fetch → ⊥) → SentAt can (asking text params (aim_of it)) w s made q a → is_before_end s ≡ false → is_some d ≡ true → is_some (decision (record t { work = it }) q a d) ≡ true
+stays_decided t can text params it w s made (Next rows) a d own plain good fetch x over h = fetch_settles t.again t.number can text params it w s made rows a own plain fetch x (good rows refl)
+stays_decided t can text params it w s made (CloseRows rows) a d own plain good fetch x over h = close_keeps t.number it a d own h
+stays_decided t can text params it w s made (CloseStmt handle) a d own plain good fetch x over h = h
+stays_decided t can text params it w s made Valid a d own plain good fetch x over h = h
+stays_decided t can text params it w s made Reset a d own plain good fetch x over h = absurd (not_late Reset refl (late_only s Reset x.next over))
+stays_decided t can text params it w s made Ping a d own plain good fetch x over h = absurd (not_late Ping refl (late_only s Ping x.next over))
+stays_decided t can text params it w s made (Prepare u) a d own plain good fetch x over h = absurd (not_late (Prepare u) refl (late_only s (Prepare u) x.next over))
+stays_decided t can text params it w s made (Exec input ps) a d own plain good fetch x over h = absurd (not_late (Exec input ps) refl (late_only s (Exec input ps) x.next over))
+stays_decided t can text params it w s made (Query input ps) a d own plain good fetch x over h = absurd (not_late (Query input ps) refl (late_only s (Query input ps) x.next over))
+stays_decided t can text params it w s made _ a d own plain good fetch x over h = absurd (impossible x.sent)

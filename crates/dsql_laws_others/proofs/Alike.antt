@@ -9,7 +9,6 @@ use Rattle.dsql_laws_calls.specs.course.declared.course.Wish.{Wish}
 use Rattle.dsql_laws_calls.specs.course.declared.course.Wish.TheVariants as wishes
 use Rattle.dsql_laws_calls.specs.course.Made.{or_else}
 use Rattle.dsql_laws_calls.specs.journal.declared.entry.Entry.{Entry}
-use Rattle.dsql_laws_calls.specs.journal.declared.entry.Owner.{Owner}
 use Rattle.dsql_laws_calls.specs.journal.Kinds.{number_of}
 use Rattle.dsql_laws_calls.specs.journal.Readers.{of_tenure, went_bad}
 use Rattle.dsql_laws_calls.specs.pool.declared.conn.Conn.{Conn}
@@ -19,7 +18,7 @@ use Rattle.dsql_laws_calls.specs.rows.declared.rows.Rows.{Rows}
 use Rattle.dsql_laws_calls.specs.rows.OpenRows.{is_live}
 use Rattle.dsql_laws_calls.specs.tx.declared.end.TxEnd.{TxEnd}
 use Rattle.dsql_laws_calls.specs.tx.declared.tx.Tx.{Tx as Trans}
-use Rattle.dsql_laws_calls.specs.works.Line.{test_of, Asked, line_after}
+use Rattle.dsql_laws_calls.specs.works.Line.{test_of, Asked}
 use Rattle.dsql_laws_calls.specs.history.Readers.HandedOut.{live, over, is_late, rows_by, are_live, are_over, ender}
 use Rattle.dsql_laws_calls.specs.history.Rules.Wishes.{wish_as}
 use Rattle.dsql_laws_calls.proofs.laws_work.Rows.{read_set}
@@ -39,13 +38,13 @@ use Rattle.dsql_laws_calls.specs.history.Readers.Transactions.{tx_by, end_of, tx
 use Rattle.dsql_laws_calls.specs.history.Readers.Pool.{pool, place, home}
 use Rattle.dsql_laws_calls.specs.history.Readers.Unfinished.{is_unfinished}
 use Rattle.dsql_laws_calls.specs.history.Readers.Works.{works, work, aim_of, scope, is_fetch, hands_out_in, borrower}
-use Rattle.dsql_laws_calls.specs.history.Rules.Sent.{is_reset_due, asked_by, line_with, line_at, line_of, closes, wish, sent_for, close_due}
+use Rattle.dsql_laws_calls.specs.history.Rules.Sent.{is_reset_due, asked_by, sender, line_with, line_at, line_of, closes, wish, sent_for, close_due}
 use Rattle.dsql_laws_calls.specs.history.Rules.Ending.{first_closing, ended_by_call, end_after, ending_at, ending_with, ending}
 use Rattle.dsql_laws_calls.specs.history.Rules.Line.{sends_in, due_inside, due_in, due_for, rest_with, is_used}
 use Rattle.dsql_laws_calls.specs.history.Rules.Settled.{is_in_use, is_kept, uses_what_is_lent}
 use Rattle.dsql_laws_calls.proofs.Inside.{inside_uses}
 use Rattle.dsql_laws_calls.proofs.Begun.{stays_begun, stays_over}
-use Rattle.dsql_laws_calls.proofs.Lines.{inner_as}
+use Rattle.dsql_laws_calls.proofs.Lines.{same_sender}
 
 -- Holds if call m sends in the line of call j: in its own line, or for the rows of call j.
 abbrev pub Concerns : List Event → ℕ → ℕ → Type 0
@@ -182,23 +181,12 @@ pub record SameLine (H K : List Event) (n c : ℕ) : Type 0 where
   pub uses : borrower K n ≡ borrower H n
   pub heard : journal K c ≡ journal H c
 
-plain_as : (ca cb : Caps) (b d : Bool) (x y : Asked) (w : Wish) (L : List Entry) → cb ≡ ca → d ≡ b → y ≡ x → line_after cb d y w L ≡ line_after ca b x w L
-plain_as ca cb b d x y w L p r q = rw (p, r, q) refl
-
-same_with : (H K : List Event) (n c : ℕ) (bad : Bool) (w : Wish) (it : Work) (s : Scope) (L : List Entry) → SameLine H K n c → line_with K n c bad w it s L ≡ line_with H n c bad w it s L
-same_with H K n c bad w (Begin label level read_only) s L p = let can = p.can in let resets = p.resets in rw (resets, can) refl
-same_with H K n c bad w it Db L p = plain_as (caps H) (caps K) (is_reset_due H c) (is_reset_due K c) (asked_by H n) (asked_by K n) w L p.can p.resets p.asked
-same_with H K n c bad w it (Tx k) L p = inner_as (caps H) (caps K) bad (asked_by H n) (asked_by K n) w L p.can p.asked
-
-line_as : (K : List Event) (n c t : ℕ) (w : Wish) (own : Owner) (it jt : Work) (J M : List Entry) → jt ≡ it → M ≡ J
-    → line_with K n c (went_bad M) w jt (scope jt) (line_in own n (of_tenure t M)) ≡ line_with K n c (went_bad J) w it (scope it) (line_in own n (of_tenure t J))
-line_as K n c t w own it jt J M a b = rw (a, b) refl
-
 pub line_asked : (H K : List Event) (n : ℕ) (w : Wish) (c : ℕ) (at : Option Place) → SameLine H K n c → line_at K n w c at ≡ line_at H n w c at
 line_asked H K n w c (Some (Lent t own)) p =
-    ap (λ b. cond (number_of own == b) (line_with K n c (went_bad (journal K c)) w (work K n) (scope (work K n)) (line_in own n (heard_in K c t))) None) p.uses
+    ap (λ b. cond (number_of own == b) (line_with (sender K n c w) (line_in own n (heard_in K c t))) None) p.uses
     ∙ ap (λ d. cond (number_of own == borrower H n) d None)
-    (line_as K n c t w own (work H n) (work K n) (journal H c) (journal K c) p.its_work p.heard ∙ same_with H K n c (went_bad (journal H c)) w (work H n) (scope (work H n)) (line_in own n (heard_in H c t)) p)
+    (ap (λ J. line_with (sender K n c w) (line_in own n (of_tenure t J))) p.heard
+    ∙ ap (λ S. line_with S (line_in own n (heard_in H c t))) (same_sender H K n c w p.can p.resets p.heard p.asked p.its_work))
 line_asked H K n w c _ p = refl
 
 -- What ends a transaction.

@@ -13,7 +13,7 @@ use Rattle.dsql_laws_calls.specs.history.declared.reply.Reply.TheVariants.{Truth
 use Rattle.dsql_laws_calls.specs.history.declared.work.Scope.TheVariants.{Db, Tx}
 use Rattle.dsql_laws_calls.specs.history.declared.work.Work.{Work}
 use Rattle.dsql_laws_calls.specs.history.declared.work.Work.TheVariants.{Execute, ReadOne, HandOut, Begin, End, Ping, Fetch, Close, Look}
-use Rattle.dsql_laws_calls.specs.history.Readers.Calls.{told_by_tries, told_in, told_of_work}
+use Rattle.dsql_laws_calls.specs.history.Readers.Calls.{told_by_tries, told_by_scope, told_of_work}
 use Rattle.dsql_laws_calls.specs.history.Readers.HandedOut.{are_over}
 use Rattle.dsql_laws_calls.specs.history.Readers.Tries.{tries}
 use Rattle.dsql_laws_calls.specs.history.Readers.Unfinished.{unfinished, is_unfinished}
@@ -24,7 +24,7 @@ use Rattle.dsql_laws_calls.proofs.laws.Numbered.{unfinished_from_one}
 
 -- What others have settled stays settled, whatever the call's work is.
 pub told_each : (H K : List Event) (m : ℕ) (it : Work) → ((v : Work) → is_some (told_by_tries H v (tries H m)) ≡ true → is_some (told_by_tries K v (tries K m)) ≡ true)
-    → ((v : Work) (k : ℕ) → is_some (told_in H m v (Tx k)) ≡ true → is_some (told_in K m v (Tx k)) ≡ true) → ((j : ℕ) → are_over H j ≡ true → are_over K j ≡ true) → is_some (told_of_work H m it) ≡ true → is_some (told_of_work K m it) ≡ true
+    → ((v : Work) (k : ℕ) → is_some (told_by_scope H m v (Tx k)) ≡ true → is_some (told_by_scope K m v (Tx k)) ≡ true) → ((j : ℕ) → are_over H j ≡ true → are_over K j ≡ true) → is_some (told_of_work H m it) ≡ true → is_some (told_of_work K m it) ≡ true
 told_each H K m it tried inner over h = by it h
   where
     fetched : (b c : Bool) → (b ≡ true → c ≡ true) → is_some (cond {A = Option Reply} b (Some (Truth false)) None) ≡ true → is_some (cond {A = Option Reply} c (Some (Truth false)) None) ≡ true

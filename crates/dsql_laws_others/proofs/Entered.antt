@@ -20,7 +20,7 @@ use Rattle.dsql_laws_calls.specs.history.declared.work.Scope.{Scope}
 use Rattle.dsql_laws_calls.specs.history.declared.work.Scope.TheVariants.{Db, Tx}
 use Rattle.dsql_laws_calls.specs.history.declared.work.Work.{Work}
 use Rattle.dsql_laws_calls.specs.history.declared.work.Work.TheVariants.{Execute, ReadOne, HandOut, Begin, End, Ping, Fetch, Close, Look}
-use Rattle.dsql_laws_calls.specs.history.Readers.Calls.{decided, done_with, has_begun_to_send, told_in, told_of_work}
+use Rattle.dsql_laws_calls.specs.history.Readers.Calls.{decided, done_with, has_begun_to_send, told_by_scope, told_of_work}
 use Rattle.dsql_laws_calls.specs.history.Readers.Course.{db_end}
 use Rattle.dsql_laws_calls.specs.history.Readers.Journals.{journal}
 use Rattle.dsql_laws_calls.specs.history.Readers.Lines.{has_sent}
@@ -275,7 +275,7 @@ rows_on H client n op m j o sent = by (closes H m j) (is_fetch (work H m) && (ar
 
 -- What is due in a transaction.
 
-inner_on : (H : List Event) (client n : ℕ) (op : Op) (m k : ℕ) → Enters H client n op → m ≢ n → ((K : List Event) → told_of_work K m (work H m) ≡ told_in K m (work H m) (Tx k)) → is_some (due_inside H m (Tx k)) ≡ true
+inner_on : (H : List Event) (client n : ℕ) (op : Op) (m k : ℕ) → Enters H client n op → m ≢ n → ((K : List Event) → told_of_work K m (work H m) ≡ told_by_scope K m (work H m) (Tx k)) → is_some (due_inside H m (Tx k)) ≡ true
     → (is_some (due_inside (enters H client n op) m (Tx k)) ≡ true) ⊎ Told H (enters H client n op) m
 inner_on H client n op m k x apart tells due = by (has_begun_to_send H m) (goes_on H k && is_none (decided H m)) refl refl due
   where
@@ -340,9 +340,9 @@ due_on H client n op m x apart u due = by (work H m) refl (sym (ap (λ b. is_som
     own : (w : Work) → work H m ≡ w → due_in (enters H client n op) m w ≡ line_of (enters H client n op) m wishes.Nothing → is_some (line_of H m wishes.Nothing) ≡ true → (is_some (due_for (enters H client n op) m) ≡ true) ⊎ Told H (enters H client n op) m
     own w is its h = inl (now (ap (λ v. is_some (due_in K m v)) is ∙ (ap (λ d. is_some d) (its ∙ kept_line H client n op m wishes.Nothing x apart) ∙ h)))
 
-    inner : (w : Work) (k : ℕ) → work H m ≡ w → due_in (enters H client n op) m w ≡ due_inside (enters H client n op) m (Tx k) → ((L : List Event) → told_of_work L m w ≡ told_in L m w (Tx k)) → is_some (due_inside H m (Tx k)) ≡ true
+    inner : (w : Work) (k : ℕ) → work H m ≡ w → due_in (enters H client n op) m w ≡ due_inside (enters H client n op) m (Tx k) → ((L : List Event) → told_of_work L m w ≡ told_by_scope L m w (Tx k)) → is_some (due_inside H m (Tx k)) ≡ true
         → (is_some (due_for (enters H client n op) m) ≡ true) ⊎ Told H (enters H client n op) m
-    inner w k is its tells h = elim (inner_on H client n op m k x apart (λ L. ap (told_of_work L m) is ∙ (tells L ∙ ap (λ v. told_in L m v (Tx k)) (sym is))) h) [
+    inner w k is its tells h = elim (inner_on H client n op m k x apart (λ L. ap (told_of_work L m) is ∙ (tells L ∙ ap (λ v. told_by_scope L m v (Tx k)) (sym is))) h) [
       | inl goes ↦ inl (now (ap (λ v. is_some (due_in K m v)) is ∙ (ap (λ d. is_some d) its ∙ goes)))
       | inr told ↦ inr told
     ]

@@ -39,7 +39,7 @@ use Rattle.dsql_laws_calls.specs.history.declared.work.Scope.TheVariants.{Db, Tx
 use Rattle.dsql_laws_calls.specs.history.declared.work.Work.{Work}
 use Rattle.dsql_laws_calls.specs.history.declared.work.Work.TheVariants.{Execute, ReadOne, HandOut, Begin, Ping, Fetch, Look}
 use Rattle.dsql_laws_calls.specs.history.Readers.Course.{caps, db_end}
-use Rattle.dsql_laws_calls.specs.history.Readers.Calls.{call_record, decided, has_begun_to_send, done_with, told_by_tries, told_in, told_of_work, told_by_others, last_told, asks_nothing, rests, rests_with}
+use Rattle.dsql_laws_calls.specs.history.Readers.Calls.{call_record, decided, has_begun_to_send, done_with, told_by_tries, told_by_scope, told_of_work, told_by_others, last_told, asks_nothing, rests, rests_with}
 use Rattle.dsql_laws_calls.specs.history.Readers.Journals.{journal}
 use Rattle.dsql_laws_calls.specs.history.Readers.Lines.{has_sent}
 use Rattle.dsql_laws_calls.specs.history.Readers.Transactions.{transactions, tx_by, end_of, tx_end, goes_on}
@@ -258,7 +258,7 @@ used_entered H client n op l plain =
 tries_alike : (H K : List Event) (w : Work) (ts : List Try) → db_end K ≡ db_end H → told_by_tries K w ts ≡ told_by_tries H w ts
 tries_alike H K w ts same = ap (λ end. cond (has_a_try ts) (option_map DbClosed end) (last_told (tries_again w (try_number ts)) (try_number ts) ts)) same
 
-inside_told : (H : List Event) (client n : ℕ) (op : Op) (m : ℕ) (it : Work) (s : Scope) → Lawful (Entered client n op ∷ H) → Leaves H (Entered client n op ∷ H) → m ≢ n → told_in (Entered client n op ∷ H) m it s ≡ told_in H m it s
+inside_told : (H : List Event) (client n : ℕ) (op : Op) (m : ℕ) (it : Work) (s : Scope) → Lawful (Entered client n op ∷ H) → Leaves H (Entered client n op ∷ H) → m ≢ n → told_by_scope (Entered client n op ∷ H) m it s ≡ told_by_scope H m it s
 inside_told H client n op m it Db l k apart = tries_alike H (Entered client n op ∷ H) it (tries H m) k.end
 inside_told H client n op m it (Tx j) l k apart =
     ap (λ b. cond b None (done_with (tx_end (Entered client n op ∷ H) j))) (sent_entered H client n op m l k.pool apart)

@@ -14,7 +14,7 @@ use Rattle.dsql_laws_calls.specs.history.declared.work.Scope.{Scope}
 use Rattle.dsql_laws_calls.specs.history.declared.work.Scope.TheVariants.{Db, Tx}
 use Rattle.dsql_laws_calls.specs.history.declared.work.Work.{Work}
 use Rattle.dsql_laws_calls.specs.history.declared.work.Work.TheVariants.{Execute, ReadOne, HandOut, Begin, End, Ping, Fetch, Close, Look}
-use Rattle.dsql_laws_calls.specs.history.Readers.Calls.{has_begun_to_send, told_by_tries, told_in, told_of_work, told_by_others, done_with}
+use Rattle.dsql_laws_calls.specs.history.Readers.Calls.{has_begun_to_send, told_by_tries, told_by_scope, told_of_work, told_by_others, done_with}
 use Rattle.dsql_laws_calls.specs.history.Readers.Transactions.{tx_end}
 use Rattle.dsql_laws_calls.specs.history.Readers.Journals.{journal}
 use Rattle.dsql_laws_calls.specs.history.Readers.Lines.{has_sent}
@@ -116,7 +116,7 @@ tried_alike : (H : List Event) (move : Move) (w : Work) (ts us : List Try) → u
 tried_alike H move w ts us same = ap (told_by_tries H w) same
 
 told_inside : (H : List Event) (move : Move) (m : ℕ) (w : Work) (s : Scope) → tries (Pool move ∷ H) m ≡ tries H m → (has_begun_to_send (Pool move ∷ H) m ≡ true → has_begun_to_send H m ≡ true)
-    → is_some (told_in H m w s) ≡ true → is_some (told_in (Pool move ∷ H) m w s) ≡ true
+    → is_some (told_by_scope H m w s) ≡ true → is_some (told_by_scope (Pool move ∷ H) m w s) ≡ true
 told_inside H move m w Db same fewer h = ap (λ o. is_some o) (tried_alike H move w (tries H m) (tries (Pool move ∷ H) m) same) ∙ h
 told_inside H move m w (Tx k) same fewer h = by (has_begun_to_send (Pool move ∷ H) m) (has_begun_to_send H m) fewer h
   where

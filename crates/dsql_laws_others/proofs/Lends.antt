@@ -18,7 +18,6 @@ use Rattle.dsql_laws_calls.specs.course.Made.{has_fast_way}
 use Rattle.dsql_laws_calls.specs.journal.declared.entry.Entry.{Entry}
 use Rattle.dsql_laws_calls.specs.journal.declared.entry.Owner.{Owner}
 use Rattle.dsql_laws_calls.specs.journal.Kinds.{is_call}
-use Rattle.dsql_laws_calls.specs.journal.Readers.{went_bad}
 use Rattle.dsql_laws_calls.specs.rows.declared.rows.Rows.{Rows}
 use Rattle.dsql_laws_calls.specs.rows.OpenRows.{is_live}
 use Rattle.dsql_laws_calls.specs.pool.declared.conn.Place.TheVariants.{Lent}
@@ -47,14 +46,14 @@ use Rattle.dsql_laws_calls.specs.history.declared.work.Work.{Work}
 use Rattle.dsql_laws_calls.specs.history.declared.work.Work.TheVariants.{Execute, ReadOne, HandOut, Begin, Ping}
 use Rattle.dsql_laws_calls.specs.history.Readers.Calls.{site, decided, told_by_others, asks_nothing, rests, rests_with}
 use Rattle.dsql_laws_calls.specs.history.Readers.Course.{caps}
-use Rattle.dsql_laws_calls.specs.history.Readers.Journals.{journal, heard_in}
+use Rattle.dsql_laws_calls.specs.history.Readers.Journals.{heard_in}
 use Rattle.dsql_laws_calls.specs.history.Readers.Lines.{line_in}
 use Rattle.dsql_laws_calls.specs.history.Readers.Transactions.{is_begun, goes_on}
 use Rattle.dsql_laws_calls.specs.history.Readers.Unfinished.{is_unfinished}
 use Rattle.dsql_laws_calls.specs.history.Readers.Works.{work, aim_of, scope, asks}
 use Rattle.dsql_laws_calls.specs.history.Rules.Ending.{ending}
 use Rattle.dsql_laws_calls.specs.history.Rules.Line.{due_in, due_for, rest_with, rest, is_used}
-use Rattle.dsql_laws_calls.specs.history.Rules.Sent.{is_reset_due, asked_by, line_with, line_of}
+use Rattle.dsql_laws_calls.specs.history.Rules.Sent.{Sender, sender, line_for, line_with, line_of}
 use Rattle.dsql_laws_calls.specs.history.Rules.Settled.{is_kept}
 use Rattle.dsql_laws_calls.specs.history.Rules.Stands.{is_own_step, is_settled_for, has_to_reply, stand}
 use Rattle.dsql_laws_calls.specs.history.Legal.{Lawful}
@@ -147,23 +146,23 @@ lent_answered H c t own n u h =
     (sym (ap (λ (b : Bool). b && asks_nothing (caps H) (work H n) (tries (lends H c t own n) n)) u ∙ ap (asks_nothing (caps H) (work H n)) (newest_lent H c t own n)) ∙ h)
 
 -- The first driver call of the line.
-sends_with : (H : List Event) (n c : ℕ) (bad : Bool) (w : Wish) (it : Work) → asks it ≡ true → is_answered (caps H) (asked_by H n).aim ≡ true → is_some (line_with H n c bad w it (scope it) []) ≡ true
-sends_with H n c bad w it own answered = by it own
+sends_with : (S : Sender) → asks S.work ≡ true → is_answered S.can S.asked.aim ≡ true → is_some (line_with S []) ≡ true
+sends_with S own answered = by S.work own
   where
-    plainly : (b : Bool) → is_some (line_after (caps H) b (asked_by H n) w []) ≡ true
+    plainly : (b : Bool) → is_some (line_after S.can b S.asked S.wish []) ≡ true
     plainly true = refl
-    plainly false = first_due (caps H) (asked_by H n) w answered
+    plainly false = first_due S.can S.asked S.wish answered
 
-    by : (v : Work) → asks v ≡ true → is_some (line_with H n c bad w v (scope v) []) ≡ true
-    by (Begin label level read_only) h = either (is_reset_due H c)
+    by : (v : Work) → asks v ≡ true → is_some (line_for v (scope v) S []) ≡ true
+    by (Begin label level read_only) h = either S.reset_due
       where
         either : (b : Bool) → is_some (cond b (Some Reset) (Some (calls.Begin level read_only))) ≡ true
         either true = refl
         either false = refl
-    by (Execute Db) h = plainly (is_reset_due H c)
-    by (ReadOne Db dests) h = plainly (is_reset_due H c)
-    by (HandOut Db label) h = plainly (is_reset_due H c)
-    by Ping h = plainly (is_reset_due H c)
+    by (Execute Db) h = plainly S.reset_due
+    by (ReadOne Db dests) h = plainly S.reset_due
+    by (HandOut Db label) h = plainly S.reset_due
+    by Ping h = plainly S.reset_due
     by v h = absurd cc
 
 empty_line : (own : Owner) (n : ℕ) (L : List Entry) → L ≡ [] → line_in own n L ≡ []
@@ -178,8 +177,8 @@ sends_first H c t own n w l answered =
     let K = lends H c t own n in
     let asker = lent_asker H c t own n l in
     ap (λ d. is_some d) (line_here K c t own n w l (lent_there H c t own n l) (asks_own K n asker ∙ lends_to H c t own n l.1))
-    ∙ (ap (λ L. is_some (line_with K n c (went_bad (journal H c)) w (work H n) (scope (work H n)) L)) (empty_line own n (heard_in H c t) (fresh_lending H c t own n l.0 l.1))
-    ∙ sends_with K n c (went_bad (journal H c)) w (work H n) asker answered)
+    ∙ (ap (λ L. is_some (line_with (sender K n c w) L)) (empty_line own n (heard_in H c t) (fresh_lending H c t own n l.0 l.1))
+    ∙ sends_with (sender K n c w) asker answered)
 
 pub due_lent : (H : List Event) (c t : ℕ) (own : Owner) (n : ℕ) → Lawful (lends H c t own n) → is_unfinished H n ≡ true → rests (lends H c t own n) n ≡ false → is_some (due_for (lends H c t own n) n) ≡ true
 due_lent H c t own n l u restless =

@@ -24,7 +24,7 @@ use Rattle.dsql_laws_calls.specs.history.declared.work.Scope.{Scope}
 use Rattle.dsql_laws_calls.specs.history.declared.work.Scope.TheVariants.{Db, Tx}
 use Rattle.dsql_laws_calls.specs.history.declared.work.Work.{Work}
 use Rattle.dsql_laws_calls.specs.history.declared.work.Work.TheVariants.{Execute, ReadOne, HandOut, Begin, End, Ping, Fetch, Close, Look}
-use Rattle.dsql_laws_calls.specs.history.Readers.Calls.{site, decided, has_begun_to_send, done_with, told_by_tries, told_in, told_of_work, told_by_others, rests, rests_with}
+use Rattle.dsql_laws_calls.specs.history.Readers.Calls.{site, decided, has_begun_to_send, done_with, told_by_tries, told_by_scope, told_of_work, told_by_others, rests, rests_with}
 use Rattle.dsql_laws_calls.specs.history.Readers.Journals.{journal}
 use Rattle.dsql_laws_calls.specs.history.Readers.Lines.{has_sent}
 use Rattle.dsql_laws_calls.specs.history.Readers.Owed.{owed}
@@ -98,7 +98,7 @@ fewer_sent H c t own n m k l is h = by (same_or_not k n)
 pub tries_same : (H : List Event) (c t : ℕ) (own : Owner) (n m : ℕ) → m ≢ n → tries (lends H c t own n) m ≡ tries H m
 tries_same H c t own n m apart = ap (λ b. with_try b Served (tries H m)) (other_number n m (λ same. apart (sym same)))
 
-told_inside : (H : List Event) (c t : ℕ) (own : Owner) (n m : ℕ) (w : Work) (s : Scope) → Lawful (lends H c t own n) → m ≢ n → scope (work H m) ≡ s → is_some (told_in H m w s) ≡ true → is_some (told_in (lends H c t own n) m w s) ≡ true
+told_inside : (H : List Event) (c t : ℕ) (own : Owner) (n m : ℕ) (w : Work) (s : Scope) → Lawful (lends H c t own n) → m ≢ n → scope (work H m) ≡ s → is_some (told_by_scope H m w s) ≡ true → is_some (told_by_scope (lends H c t own n) m w s) ≡ true
 told_inside H c t own n m w Db l apart is h = ap (λ ts. is_some (told_by_tries H w ts)) (tries_same H c t own n m apart) ∙ h
 told_inside H c t own n m w (Tx k) l apart is h = by (has_begun_to_send (lends H c t own n) m) (has_begun_to_send H m) (fewer_sent H c t own n m k l is) h
   where

@@ -32,7 +32,7 @@ use Rattle.dsql_laws_calls.specs.history.declared.reply.Reply.TheVariants.{TxDon
 use Rattle.dsql_laws_calls.specs.history.declared.work.Scope.TheVariants.{Tx}
 use Rattle.dsql_laws_calls.specs.history.declared.work.Work.{Work}
 use Rattle.dsql_laws_calls.specs.history.declared.work.Work.TheVariants.{Execute, ReadOne, HandOut}
-use Rattle.dsql_laws_calls.specs.history.Readers.Calls.{decided, done_with, has_begun_to_send, reply_due, rests_with, site, told_at_lending, told_by_others, told_in, told_of_work}
+use Rattle.dsql_laws_calls.specs.history.Readers.Calls.{decided, done_with, has_begun_to_send, reply_due, rests_with, site, told_at_lending, told_by_others, told_by_scope, told_of_work}
 use Rattle.dsql_laws_calls.specs.history.Readers.HandedOut.{rows_by, are_live}
 use Rattle.dsql_laws_calls.specs.history.Readers.Transactions.{ends_as, transactions, tx_by, end_of, tx_end, is_begun, is_over, goes_on}
 use Rattle.dsql_laws_calls.specs.history.Readers.Unfinished.{is_unfinished}
@@ -101,10 +101,10 @@ pub record Unsent (H : List Event) (client n : ℕ) (op : Op) (m k : ℕ) : Type
   pub silent : has_begun_to_send H m ≡ false
   pub undecided : decided H m ≡ None
 
-told_within : (L : List Event) (m k : ℕ) (w : Work) → scope w ≡ Tx k → told_of_work L m w ≡ told_in L m w (Tx k)
-told_within L m k (Execute s) is = ap (told_in L m (Execute s)) is
-told_within L m k (ReadOne s dests) is = ap (told_in L m (ReadOne s dests)) is
-told_within L m k (HandOut s label) is = ap (told_in L m (HandOut s label)) is
+told_within : (L : List Event) (m k : ℕ) (w : Work) → scope w ≡ Tx k → told_of_work L m w ≡ told_by_scope L m w (Tx k)
+told_within L m k (Execute s) is = ap (told_by_scope L m (Execute s)) is
+told_within L m k (ReadOne s dests) is = ap (told_by_scope L m (ReadOne s dests)) is
+told_within L m k (HandOut s label) is = ap (told_by_scope L m (HandOut s label)) is
 told_within L m k w is = absurd cc
 
 due_within : (L : List Event) (m k : ℕ) (w : Work) → scope w ≡ Tx k → due_in L m w ≡ due_inside L m (Tx k)

@@ -1,5 +1,5 @@
 -- Which calls that begin a transaction still await an answer that decides, by what was heard in their lines.
-use Rattle.std.proofs.Common.{◌≡◌, ℕ, ◌⊎◌, inl, inr, Bool, true, false, not, ◌&&◌, ◌||◌, cond, List, [], ◌∷◌, Option, Some, None, is_some, refl, ap, ◌∙◌}
+use Rattle.std.proofs.Common.{◌≡◌, ◌⊎◌, inl, inr, Bool, true, false, not, ◌&&◌, ◌||◌, cond, List, [], ◌∷◌, Option, Some, None, is_some, refl, ap, ◌∙◌}
 use Rattle.dsql_laws_calls.specs.driver.declared.answer.DriverAnswer.{DriverAnswer}
 use Rattle.dsql_laws_calls.specs.driver.declared.answer.DriverAnswer.TheVariants.{Done, Bad, Fail}
 use Rattle.dsql_laws_calls.specs.driver.declared.call.DriverCall.{DriverCall}
@@ -10,8 +10,7 @@ use Rattle.dsql_laws_calls.specs.driver.Fits.{fits_of, is_memory, is_done}
 use Rattle.dsql_laws_calls.specs.driver.Kinds.{is_bad, is_valid, is_begin}
 use Rattle.dsql_laws_calls.specs.journal.declared.entry.Entry.{Entry}
 use Rattle.dsql_laws_calls.specs.history.declared.reply.Reply.{Reply}
-use Rattle.dsql_laws_calls.specs.history.declared.work.Work.{Work}
-use Rattle.dsql_laws_calls.specs.history.Readers.Decisions.{decision}
+use Rattle.dsql_laws_calls.specs.history.Readers.Decisions.{decision, Trying}
 use Rattle.dsql_laws_calls.specs.history.Readers.Tries.{is_tried}
 use Rattle.dsql_laws_calls.specs.history.Rules.Line.{is_due}
 use Rattle.dsql_laws_calls.specs.history.Rules.Sent.{begin_line}
@@ -43,12 +42,12 @@ begin_sends can reset begin (e ∷ earlier) h = rw (begin_next can reset begin e
 
 -- The answer to its Begin decides.
 
-begun_decides : (again : Bool) (number count : ℕ) (it : Work) (level : Level) (read_only : Bool) (a : DriverAnswer) (d : Option Reply) → fits_of (calls.Begin level read_only) a ≡ true → is_memory a ≡ false → is_bad a ≡ false
-    → is_some (decision again number count it (calls.Begin level read_only) a d) ≡ true
-begun_decides again number count it level read_only Done d fit heard good = refl
-begun_decides again number count it level read_only (Fail why) d fit heard good = refl
-begun_decides again number count it level read_only Bad d fit heard good = absurd cc
-begun_decides again number count it level read_only a d fit heard good = absurd cc
+begun_decides : (t : Trying) (level : Level) (read_only : Bool) (a : DriverAnswer) (d : Option Reply) → fits_of (calls.Begin level read_only) a ≡ true → is_memory a ≡ false → is_bad a ≡ false
+    → is_some (decision t (calls.Begin level read_only) a d) ≡ true
+begun_decides t level read_only Done d fit heard good = refl
+begun_decides t level read_only (Fail why) d fit heard good = refl
+begun_decides t level read_only Bad d fit heard good = absurd cc
+begun_decides t level read_only a d fit heard good = absurd cc
 
 -- Holds if the begin has decided, or awaits an answer.
 abbrev pub BeginSettles : Option Reply → List Entry → Type 0
@@ -100,15 +99,15 @@ line_kind can reset level read_only (e ∷ earlier) = either (is_bad e.answer ||
     tests false = inl refl
 
 -- After the answer to a driver call that is due, the reply is settled, or the begin awaits another answer.
-pub begin_settles : (again : Bool) (number count : ℕ) (can : Caps) (reset : Bool) (level : Level) (read_only : Bool) (it : Work) (L : List Entry) (e : Entry) (d : Option Reply) → BeginSettles d L
-    → is_due (begin_line can reset (calls.Begin level read_only) L) e.call ≡ true → fits_of e.call e.answer ≡ true → is_memory e.answer ≡ false → (is_tried it e.call && is_bad e.answer) ≡ false
-    → BeginSettles (decision again number count it e.call e.answer d) (e ∷ L)
-begin_settles again number count can reset level read_only it L e d before due fit heard good =
+pub begin_settles : (t : Trying) (can : Caps) (reset : Bool) (level : Level) (read_only : Bool) (L : List Entry) (e : Entry) (d : Option Reply) → BeginSettles d L
+    → is_due (begin_line can reset (calls.Begin level read_only) L) e.call ≡ true → fits_of e.call e.answer ≡ true → is_memory e.answer ≡ false → (is_tried t.work e.call && is_bad e.answer) ≡ false
+    → BeginSettles (decision t e.call e.answer d) (e ∷ L)
+begin_settles t can reset level read_only L e d before due fit heard good =
     by e.call e.answer refl refl due fit heard good (kinds (begin_line can reset (calls.Begin level read_only) L) e.call (line_kind can reset level read_only L) due)
   where
-    by : (q : DriverCall) (a : DriverAnswer) → e.call ≡ q → e.answer ≡ a → is_due (begin_line can reset (calls.Begin level read_only) L) q ≡ true → fits_of q a ≡ true → is_memory a ≡ false → (is_tried it q && is_bad a) ≡ false → begin_kind q ≡ true
-        → BeginSettles (decision again number count it q a d) (e ∷ L)
+    by : (q : DriverCall) (a : DriverAnswer) → e.call ≡ q → e.answer ≡ a → is_due (begin_line can reset (calls.Begin level read_only) L) q ≡ true → fits_of q a ≡ true → is_memory a ≡ false → (is_tried t.work q && is_bad a) ≡ false → begin_kind q ≡ true
+        → BeginSettles (decision t q a d) (e ∷ L)
     by calls.Reset a c x k f m g kind = inr (rw (c, x) (ap not g))
-    by (calls.Begin l o) a c x k f m g kind = inl (begun_decides again number count it l o a d f m g)
+    by (calls.Begin l o) a c x k f m g kind = inl (begun_decides t l o a d f m g)
     by calls.Valid a c x k f m g kind = inl (keeps_decided can reset level read_only L d before k)
     by q a c x k f m g kind = absurd cc

@@ -30,7 +30,7 @@ use Rattle.dsql_laws_calls.specs.works.Line.{Asked, is_due_in_line, line_after}
 use Rattle.dsql_laws_calls.specs.history.declared.reply.Reply.{Reply}
 use Rattle.dsql_laws_calls.specs.history.declared.reply.Reply.TheVariants.{Cells}
 use Rattle.dsql_laws_calls.specs.history.Readers.Tries.{is_tried}
-use Rattle.dsql_laws_calls.specs.history.Readers.Decisions.{decision, fetch_decision, query_decision, close_decision, closing_decision, reply_to, told_of}
+use Rattle.dsql_laws_calls.specs.history.Readers.Decisions.{decision, fetch_decision, query_decision, close_decision, closing_decision, reply_to, told_of, Trying}
 use Rattle.dsql_laws_calls.proofs.Plain.{begins}
 use Rattle.dsql_laws_calls.proofs.laws_work.Rows.{same_number}
 use Rattle.dsql_laws_calls.proofs.laws_work.CallLines.{Step, HasRows, HasRead, step, step_after, goes}
@@ -118,44 +118,44 @@ cursor_settles again number (ReadOne Db dests) rows columns own reads = refl
 cursor_settles again number it rows columns own reads = absurd cc
 
 -- After the answer to a driver call that is due, the reply is settled, or another answer decides.
-pub settled_on : (again : Bool) (number : ℕ) (can : Caps) (reset : Bool) (text : List ℕ) (params : List Param) (it : Work) (w : Wish) (L : List Entry) (q : DriverCall) (a : DriverAnswer) (d : Option Reply) → asks it ≡ true → begins it ≡ false
+pub settled_on : (t : Trying) (can : Caps) (reset : Bool) (text : List ℕ) (params : List Param) (it : Work) (w : Wish) (L : List Entry) (q : DriverCall) (a : DriverAnswer) (d : Option Reply) → asks it ≡ true → begins it ≡ false
     → needs_answer can (aim_of it) ≡ true → (w ≡ wishes.Fetch → ⊥) → SentAt can (asking text params (aim_of it)) w (step L) (exchanges L) q a → is_due_in_line (line_after can reset (asking text params (aim_of it)) w L) q ≡ true
-    → is_some d || awaits (is_one (aim_of it)) L (length params) ≡ true → (is_tried it q && is_bad a) ≡ false → is_some (decision again number (length params) it q a d) || awaits_after (is_one (aim_of it)) q a (length params) ≡ true
-settled_on again number can reset text params it w L Reset Bad d own plain needs fetch x k before good = absurd cc
-settled_on again number can reset text params it w L Reset a d own plain needs fetch x k before good = or_right _ _ refl
-settled_on again number can reset text params it w L Ping Done d own plain needs fetch x k before good = refl
-settled_on again number can reset text params it w L Ping Bad d own plain needs fetch x k before good = refl
-settled_on again number can reset text params it w L Ping (Fail why) d own plain needs fetch x k before good = refl
-settled_on again number can reset text params it w L Ping _ d own plain needs fetch x k before good = absurd (impossible (misfit _ _ x.fit x.heard))
-settled_on again number can reset text params it w L (Exec (Text t) ps) (Result last affected) d own plain needs fetch x k before good = refl
-settled_on again number can reset text params it w L (Exec (Text t) ps) Skip d own plain needs fetch x k before good = refl
-settled_on again number can reset text params it w L (Exec (Text t) ps) Bad d own plain needs fetch x k before good = absurd cc
-settled_on again number can reset text params it w L (Exec (Text t) ps) (Fail why) d own plain needs fetch x k before good = refl
-settled_on again number can reset text params it w L (Exec (Text t) ps) _ d own plain needs fetch x k before good = absurd (impossible (misfit _ _ x.fit x.heard))
-settled_on again number can reset text params it w L (Exec (Handle h) ps) (Result last affected) d own plain needs fetch x k before good = refl
-settled_on again number can reset text params it w L (Exec (Handle h) ps) Bad d own plain needs fetch x k before good = absurd cc
-settled_on again number can reset text params it w L (Exec (Handle h) ps) (Fail why) d own plain needs fetch x k before good = refl
-settled_on again number can reset text params it w L (Exec (Handle h) ps) _ d own plain needs fetch x k before good = absurd (impossible (misfit _ _ x.fit x.heard))
-settled_on again number can reset text params it w L (Query input ps) (Cursor rows columns) d own plain needs fetch x k before good =
-    cursor_settles again number it rows columns own (opened_reads can (asking text params (aim_of it)) (step L) (exchanges L) input ps rows columns x.after)
-settled_on again number can reset text params it w L (Query (Text t) ps) Skip d own plain needs fetch x k before good = or_right _ _ refl
-settled_on again number can reset text params it w L (Query input ps) Bad d own plain needs fetch x k before good = absurd cc
-settled_on again number can reset text params it w L (Query input ps) (Fail why) d own plain needs fetch x k before good = or_left _ _ (query_decides again number it (Fail why) refl)
-settled_on again number can reset text params it w L (Query (Text t) ps) _ d own plain needs fetch x k before good = absurd (impossible (misfit _ _ x.fit x.heard))
-settled_on again number can reset text params it w L (Query (Handle h) ps) _ d own plain needs fetch x k before good = absurd (impossible (misfit _ _ x.fit x.heard))
-settled_on again number can reset text params it w L (Prepare t) (Prepared handle inputs) d own plain needs fetch x k before good = counted inputs (length params)
-settled_on again number can reset text params it w L (Prepare t) Bad d own plain needs fetch x k before good = absurd cc
-settled_on again number can reset text params it w L (Prepare t) (Fail why) d own plain needs fetch x k before good = refl
-settled_on again number can reset text params it w L (Prepare t) _ d own plain needs fetch x k before good = absurd (impossible (misfit _ _ x.fit x.heard))
-settled_on again number can reset text params it w L (Next rows) a d own plain needs fetch x k before good = or_left _ _ (fetch_settles again number can text params it w (step L) (exchanges L) rows a own plain fetch x good)
-settled_on again number can reset text params it w L (CloseRows rows) a d own plain needs fetch x k before good =
-    or_left _ _ (close_keeps number it a d own
+    → is_some d || awaits (is_one (aim_of it)) L (length params) ≡ true → (is_tried it q && is_bad a) ≡ false → is_some (decision (record t { count = length params; work = it }) q a d) || awaits_after (is_one (aim_of it)) q a (length params) ≡ true
+settled_on t can reset text params it w L Reset Bad d own plain needs fetch x k before good = absurd cc
+settled_on t can reset text params it w L Reset a d own plain needs fetch x k before good = or_right _ _ refl
+settled_on t can reset text params it w L Ping Done d own plain needs fetch x k before good = refl
+settled_on t can reset text params it w L Ping Bad d own plain needs fetch x k before good = refl
+settled_on t can reset text params it w L Ping (Fail why) d own plain needs fetch x k before good = refl
+settled_on t can reset text params it w L Ping _ d own plain needs fetch x k before good = absurd (impossible (misfit _ _ x.fit x.heard))
+settled_on t can reset text params it w L (Exec (Text u) ps) (Result last affected) d own plain needs fetch x k before good = refl
+settled_on t can reset text params it w L (Exec (Text u) ps) Skip d own plain needs fetch x k before good = refl
+settled_on t can reset text params it w L (Exec (Text u) ps) Bad d own plain needs fetch x k before good = absurd cc
+settled_on t can reset text params it w L (Exec (Text u) ps) (Fail why) d own plain needs fetch x k before good = refl
+settled_on t can reset text params it w L (Exec (Text u) ps) _ d own plain needs fetch x k before good = absurd (impossible (misfit _ _ x.fit x.heard))
+settled_on t can reset text params it w L (Exec (Handle h) ps) (Result last affected) d own plain needs fetch x k before good = refl
+settled_on t can reset text params it w L (Exec (Handle h) ps) Bad d own plain needs fetch x k before good = absurd cc
+settled_on t can reset text params it w L (Exec (Handle h) ps) (Fail why) d own plain needs fetch x k before good = refl
+settled_on t can reset text params it w L (Exec (Handle h) ps) _ d own plain needs fetch x k before good = absurd (impossible (misfit _ _ x.fit x.heard))
+settled_on t can reset text params it w L (Query input ps) (Cursor rows columns) d own plain needs fetch x k before good =
+    cursor_settles t.again t.number it rows columns own (opened_reads can (asking text params (aim_of it)) (step L) (exchanges L) input ps rows columns x.after)
+settled_on t can reset text params it w L (Query (Text u) ps) Skip d own plain needs fetch x k before good = or_right _ _ refl
+settled_on t can reset text params it w L (Query input ps) Bad d own plain needs fetch x k before good = absurd cc
+settled_on t can reset text params it w L (Query input ps) (Fail why) d own plain needs fetch x k before good = or_left _ _ (query_decides t.again t.number it (Fail why) refl)
+settled_on t can reset text params it w L (Query (Text u) ps) _ d own plain needs fetch x k before good = absurd (impossible (misfit _ _ x.fit x.heard))
+settled_on t can reset text params it w L (Query (Handle h) ps) _ d own plain needs fetch x k before good = absurd (impossible (misfit _ _ x.fit x.heard))
+settled_on t can reset text params it w L (Prepare u) (Prepared handle inputs) d own plain needs fetch x k before good = counted inputs (length params)
+settled_on t can reset text params it w L (Prepare u) Bad d own plain needs fetch x k before good = absurd cc
+settled_on t can reset text params it w L (Prepare u) (Fail why) d own plain needs fetch x k before good = refl
+settled_on t can reset text params it w L (Prepare u) _ d own plain needs fetch x k before good = absurd (impossible (misfit _ _ x.fit x.heard))
+settled_on t can reset text params it w L (Next rows) a d own plain needs fetch x k before good = or_left _ _ (fetch_settles t.again t.number can text params it w (step L) (exchanges L) rows a own plain fetch x good)
+settled_on t can reset text params it w L (CloseRows rows) a d own plain needs fetch x k before good =
+    or_left _ _ (close_keeps t.number it a d own
     (first_only (is_some d) (awaits (is_one (aim_of it)) L (length params)) before
     (none_awaited (is_one (aim_of it)) L (length params) (freeing can reset (asking text params (aim_of it)) w L rows x.before x.next k))))
-settled_on again number can reset text params it w L (CloseStmt h) a d own plain needs fetch x k before good =
+settled_on t can reset text params it w L (CloseStmt h) a d own plain needs fetch x k before good =
     or_left _ _ (first_only (is_some d) (awaits (is_one (aim_of it)) L (length params)) before
     (closing_awaits can reset (asking text params (aim_of it)) w (is_one (aim_of it)) L h x.before x.next k))
-settled_on again number can reset text params it w L Valid a d own plain needs fetch x k before good =
+settled_on t can reset text params it w L Valid a d own plain needs fetch x k before good =
     or_left _ _ (first_only (is_some d) (awaits (is_one (aim_of it)) L (length params)) before
     (none_awaited (is_one (aim_of it)) L (length params) (testing can reset (asking text params (aim_of it)) w L x.before needs x.next k)))
-settled_on again number can reset text params it w L q a d own plain needs fetch x k before good = absurd (impossible x.sent)
+settled_on t can reset text params it w L q a d own plain needs fetch x k before good = absurd (impossible x.sent)

@@ -38,7 +38,7 @@ use Rattle.dsql_laws_calls.proofs.Coming.{sound}
 use Rattle.dsql_laws_calls.proofs.Nowhere.{own_settled}
 use Rattle.dsql_laws_calls.specs.driver.Fits.{fits_of, is_memory}
 use Rattle.dsql_laws_calls.specs.history.declared.reply.Reply.TheVariants.{Absent}
-use Rattle.dsql_laws_calls.specs.history.Readers.Decisions.{decision}
+use Rattle.dsql_laws_calls.specs.history.Readers.Decisions.{decision, Trying}
 use Rattle.dsql_laws_replies.proofs.EndKinds.{end_kind}
 use Rattle.dsql_laws_calls.specs.course.declared.course.Wish.{Wish}
 use Rattle.dsql_laws_calls.specs.history.declared.work.Scope.{Scope}
@@ -50,12 +50,11 @@ use Rattle.dsql_laws_calls.specs.tx.declared.tx.Tx.{Tx as Trans}
 use Rattle.dsql_laws_calls.specs.tx.Transactions as of_txs
 use Rattle.dsql_laws_calls.specs.history.declared.event.Op.{Op}
 use Rattle.dsql_laws_calls.specs.history.declared.event.Op.TheVariants as ops
-use Rattle.dsql_laws_calls.specs.history.Readers.Calls.{decided, done_with, tx_refused, told_at_entry, call_record, calls, reply_due, told_by_others, told_at_lending}
+use Rattle.dsql_laws_calls.specs.history.Readers.Calls.{decided, done_with, tx_refused, told_at_entry, calls, reply_due, told_by_others, told_at_lending}
 use Rattle.dsql_laws_calls.specs.history.Readers.Unfinished.{is_unfinished}
 use Rattle.dsql_laws_calls.proofs.RowsKept.{Borrows, tx_borrows}
 use Rattle.dsql_laws_calls.proofs.Sound.{same_lent}
-use Rattle.dsql_laws_replies.proofs.Records.{record_stays, own_record, fitting}
-use Rattle.dsql_laws_calls.specs.history.Readers.Tries.{try_number, tries, tries_again}
+use Rattle.dsql_laws_replies.proofs.Records.{record_stays, own_record, fitting, trying_of}
 use Rattle.dsql_laws_calls.proofs.Works.{other_heard}
 use Rattle.dsql_laws_replies.proofs.EndSends.{end_sends, end_decides, end_keeps}
 use Rattle.dsql_laws_calls.proofs.laws.Numbered.{unfinished_from_one}
@@ -262,15 +261,15 @@ ends_heard H e n k l some it i = by (e.call_no == n) (is_ending e.call) refl ref
     fits : (fits_of e.call e.answer ≡ true) × (is_memory e.answer ≡ false)
     fits = fitting H e l.1
 
-    recorded : e.call_no ≡ n → ((again : Bool) (number count : ℕ) → is_some (decision again number count (End k) e.call e.answer (decided H n)) ≡ true) → is_some (decided (Heard e ∷ H) n) ≡ true
+    recorded : e.call_no ≡ n → ((t : Trying) → is_some (decision (record t { work = End k }) e.call e.answer (decided H n)) ≡ true) → is_some (decided (Heard e ∷ H) n) ≡ true
     recorded mine h =
         let its : work H e.call_no ≡ End k = ap (work H) mine ∙ it in
         let new = own_record H e (busy_end (work H e.call_no) k its) (λ none. some (sym mine ∙ none)) in
         subst (λ j. is_some (decided (Heard e ∷ H) j) ≡ true) mine
         (ap (λ o. is_some o) new
-        ∙ (ap (λ w. is_some (decision (tries_again (work H e.call_no) (try_number (tries H e.call_no))) (try_number (tries H e.call_no)) (length (call_record H e.call_no).params) w e.call e.answer (decided H e.call_no))) its
-        ∙ (ap (λ j. is_some (decision (tries_again (work H e.call_no) (try_number (tries H e.call_no))) (try_number (tries H e.call_no)) (length (call_record H e.call_no).params) (End k) e.call e.answer (decided H j))) mine
-        ∙ h (tries_again (work H e.call_no) (try_number (tries H e.call_no))) (try_number (tries H e.call_no)) (length (call_record H e.call_no).params))))
+        ∙ (ap (λ w. is_some (decision (record (trying_of H e.call_no) { work = w }) e.call e.answer (decided H e.call_no))) its
+        ∙ (ap (λ j. is_some (decision (record (trying_of H e.call_no) { work = End k }) e.call e.answer (decided H j))) mine
+        ∙ h (trying_of H e.call_no))))
 
     kind : e.call_no ≡ n → end_kind e.call ≡ true
     kind mine =
@@ -279,8 +278,8 @@ ends_heard H e n k l some it i = by (e.call_no == n) (is_ending e.call) refl ref
         end_sends H e k l.0 (comes H e (place H e.conn) there.sets there.line numbered) numbered (ap (work H) mine ∙ it)
 
     by : (b c : Bool) → (e.call_no == n) ≡ b → is_ending e.call ≡ c → Ends H n k → Ends (Heard e ∷ H) n k
-    by true true m c i = let mine = same_number e.call_no n m in inl (recorded mine (λ again number count. end_decides again number count k e.call e.answer (decided H n) c fits.0 fits.1))
-    by true false m c (inl d) = let mine = same_number e.call_no n m in inl (recorded mine (λ again number count. end_keeps again number count k e.call e.answer (decided H n) (kind mine) fits.0 fits.1 d))
+    by true true m c i = let mine = same_number e.call_no n m in inl (recorded mine (λ t. end_decides t k e.call e.answer (decided H n) c fits.0 fits.1))
+    by true false m c (inl d) = let mine = same_number e.call_no n m in inl (recorded mine (λ t. end_keeps t k e.call e.answer (decided H n) (kind mine) fits.0 fits.1 d))
     by true false m c (inr a) = kept a c (same_or_not e.conn a.conn)
     by false c m x (inl d) = inl (ap (λ r. is_some r.decided) (other_heard H e n (λ same. never (e.call_no == n) (ap (λ j. e.call_no == j) same ∙ same_itself e.call_no) m)) ∙ d)
     by false true m c (inr a) = foreign a m c (same_or_not e.conn a.conn)

@@ -55,7 +55,7 @@ use Rattle.dsql_laws_replies.proofs.InnerOver.{is_tidy}
 use Rattle.dsql_laws_calls.specs.driver.declared.caps.Caps.{Caps}
 use Rattle.dsql_laws_calls.specs.driver.Fits.{fits_of, is_memory}
 use Rattle.dsql_laws_calls.specs.history.declared.reply.Reply.{Reply}
-use Rattle.dsql_laws_calls.specs.history.Readers.Decisions.{decision}
+use Rattle.dsql_laws_calls.specs.history.Readers.Decisions.{decision, Trying}
 use Rattle.dsql_laws_replies.proofs.EndKinds.{held_in, end_kind, tidy_kind}
 
 same_some : (p q : DriverCall) → Some p ≡ Some q → p ≡ q
@@ -172,19 +172,19 @@ end_sends (last ∷ H) e k l h some it = by (λ may was. end_sends H e k l.0 may
 
 -- What is decided stays decided.
 
-pub end_decides : (again : Bool) (number count k : ℕ) (q : DriverCall) (a : DriverAnswer) (d : Option Reply) → is_ending q ≡ true → fits_of q a ≡ true → is_memory a ≡ false → is_some (decision again number count (End k) q a d) ≡ true
-end_decides again number count k Commit Done d e fit heard = refl
-end_decides again number count k Commit Bad d e fit heard = refl
-end_decides again number count k Commit (Fail why) d e fit heard = refl
-end_decides again number count k Rollback Done d e fit heard = refl
-end_decides again number count k Rollback Bad d e fit heard = refl
-end_decides again number count k Rollback (Fail why) d e fit heard = refl
-end_decides again number count k _ a d e fit heard = absurd cc
+pub end_decides : (t : Trying) (k : ℕ) (q : DriverCall) (a : DriverAnswer) (d : Option Reply) → is_ending q ≡ true → fits_of q a ≡ true → is_memory a ≡ false → is_some (decision (record t { work = End k }) q a d) ≡ true
+end_decides t k Commit Done d e fit heard = refl
+end_decides t k Commit Bad d e fit heard = refl
+end_decides t k Commit (Fail why) d e fit heard = refl
+end_decides t k Rollback Done d e fit heard = refl
+end_decides t k Rollback Bad d e fit heard = refl
+end_decides t k Rollback (Fail why) d e fit heard = refl
+end_decides t k _ a d e fit heard = absurd cc
 
-pub end_keeps : (again : Bool) (number count k : ℕ) (q : DriverCall) (a : DriverAnswer) (d : Option Reply) → end_kind q ≡ true → fits_of q a ≡ true → is_memory a ≡ false → is_some d ≡ true → is_some (decision again number count (End k) q a d) ≡ true
-end_keeps again number count k (CloseRows r) a d kind fit heard some = closing_decides number a d some
-end_keeps again number count k (CloseStmt r) a d kind fit heard some = some
-end_keeps again number count k Valid a d kind fit heard some = some
-end_keeps again number count k Commit a d kind fit heard some = end_decides again number count k Commit a d refl fit heard
-end_keeps again number count k Rollback a d kind fit heard some = end_decides again number count k Rollback a d refl fit heard
-end_keeps again number count k q a d kind fit heard some = absurd cc
+pub end_keeps : (t : Trying) (k : ℕ) (q : DriverCall) (a : DriverAnswer) (d : Option Reply) → end_kind q ≡ true → fits_of q a ≡ true → is_memory a ≡ false → is_some d ≡ true → is_some (decision (record t { work = End k }) q a d) ≡ true
+end_keeps t k (CloseRows r) a d kind fit heard some = closing_decides t.number a d some
+end_keeps t k (CloseStmt r) a d kind fit heard some = some
+end_keeps t k Valid a d kind fit heard some = some
+end_keeps t k Commit a d kind fit heard some = end_decides t k Commit a d refl fit heard
+end_keeps t k Rollback a d kind fit heard some = end_decides t k Rollback a d refl fit heard
+end_keeps t k q a d kind fit heard some = absurd cc

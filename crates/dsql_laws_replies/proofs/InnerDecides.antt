@@ -38,7 +38,7 @@ use Rattle.dsql_laws_replies.proofs.InnerOver.{Over, is_tidy, over_next}
 -- Holds if the answer settles the reply, or the call awaits another answer.
 abbrev pub Outcome : ℕ → Caps → ℕ → Work → DriverCall → DriverAnswer → Option Reply → List Exchange → Type 0
 Outcome number can count it q a d made =
-    ((is_some (decision false number count it q a d) ≡ true) × Over can (aim_of it) count (with_exchange (step_of q) a made)) ⊎ Awaiting can (aim_of it) count (with_exchange (step_of q) a made)
+    ((is_some (decision (record { again = false; number = number; count = count; work = it }) q a d) ≡ true) × Over can (aim_of it) count (with_exchange (step_of q) a made)) ⊎ Awaiting can (aim_of it) count (with_exchange (step_of q) a made)
 
 -- A number of inputs that is refused gives a reply.
 counted : (inputs : ℤ) (count : ℕ) → ((is_some (told_of (count_fault inputs count)) ≡ true) × (is_none (count_fault inputs count) ≡ false)) ⊎ (is_none (count_fault inputs count) ≡ true)

@@ -33,7 +33,7 @@ use Rattle.dsql_laws_calls.specs.history.Readers.Transactions.{is_begun}
 use Rattle.dsql_laws_calls.specs.history.Readers.Unfinished.{is_unfinished}
 use Rattle.dsql_laws_calls.specs.history.Readers.Works.{work, scope}
 use Rattle.dsql_laws_calls.specs.history.Rules.Line.{is_due}
-use Rattle.dsql_laws_calls.specs.history.Rules.Sent.{asked_by, inner_after}
+use Rattle.dsql_laws_calls.specs.history.Rules.Sent.{asked_by, inner_after, sender}
 use Rattle.dsql_laws_calls.specs.history.Legal.{Lawful}
 use Rattle.dsql_laws_calls.proofs.Owners.{at_home}
 use Rattle.dsql_laws_calls.proofs.Looks.{heard_there, comes}
@@ -55,7 +55,7 @@ use Rattle.dsql_laws_replies.proofs.Awaiting.{under_way}
 use Rattle.dsql_laws_replies.proofs.InnerAwaits.{Awaiting}
 use Rattle.dsql_laws_replies.proofs.InnerOver.{Over}
 use Rattle.dsql_laws_replies.proofs.InnerDecides.{Outcome}
-use Rattle.dsql_laws_replies.proofs.Records.{own_record, fitting}
+use Rattle.dsql_laws_replies.proofs.Records.{own_record, fitting, trying_of}
 use Rattle.dsql_laws_calls.specs.driver.declared.answer.DriverAnswer.{DriverAnswer}
 use Rattle.dsql_laws_calls.specs.course.declared.call.Due.{Due}
 use Rattle.dsql_laws_replies.proofs.Inner.{Unsent, InAwaits, Inner, awaits_as, over_as, awaits_still, over_at, unhanded, awaiting_line}
@@ -197,7 +197,7 @@ inner_own H e n k l mine some s i = by (own_answer H e n k l mine s)
         unending : is_ending e.call ≡ false
         unending =
             let y = w.way in
-            no_ending_due (line_there H e.conn e.tenure w.owner n wishes.Nothing) e.call (with_ends H n e.conn (went_bad (journal H e.conn)) wishes.Nothing (work H n) (scope (work H n)) (line_in w.owner n (heard_in H e.conn e.tenure))) y.due
+            no_ending_due (line_there H e.conn e.tenure w.owner n wishes.Nothing) e.call (with_ends (sender H n e.conn wishes.Nothing) (line_in w.owner n (heard_in H e.conn e.tenure))) y.due
 
         more : heard_in (Heard e ∷ H) e.conn e.tenure ≡ e ∷ heard_in H e.conn e.tenure
         more = heard_more H e e.conn e.tenure w.owner l.1 w.lent refl
@@ -208,9 +208,9 @@ inner_own H e n k l mine some s i = by (own_answer H e n k l mine s)
         asked_same : asked_by (Heard e ∷ H) n ≡ asked_by H n
         asked_same = asked_stays H (Heard e) n (inside_busy (work H n) k s)
 
-        told_so : decided (Heard e ∷ H) n ≡ decision (tries_again (work H n) (try_number (tries H n))) (try_number (tries H n)) (length (asked_by H n).params) (work H n) e.call e.answer (decided H n)
+        told_so : decided (Heard e ∷ H) n ≡ decision (trying_of H n) e.call e.answer (decided H n)
         told_so =
-            subst (λ j. decided (Heard e ∷ H) j ≡ decision (tries_again (work H j) (try_number (tries H j))) (try_number (tries H j)) (length (asked_by H j).params) (work H j) e.call e.answer (decided H j)) mine
+            subst (λ j. decided (Heard e ∷ H) j ≡ decision (trying_of H j) e.call e.answer (decided H j)) mine
             (own_record H e (inside_busy (work H e.call_no) k (ap (λ j. scope (work H j)) mine ∙ s)) (λ none. some (sym mine ∙ none)))
 
         over_now : Over (caps H) asked.aim (length asked.params) (with_exchange (step_of e.call) e.answer made) → (c t : ℕ) (own : Owner) → place H c ≡ Some (Lent t own) → number_of own ≡ k
@@ -240,7 +240,7 @@ inner_own H e n k l mine some s i = by (own_answer H e n k l mine s)
 
         result : Outcome number (caps H) (length asked.params) (work H n) e.call e.answer (decided H n) made → Inner (Heard e ∷ H) n k
         result (inl x) = inr (inr (record {
-          told = ap (λ o. is_some o) told_so ∙ (ap (λ b. is_some (decision b (try_number (tries H n)) (length (asked_by H n).params) (work H n) e.call e.answer (decided H n))) (no_again (work H n) k (try_number (tries H n)) s) ∙ x.0);
+          told = ap (λ o. is_some o) told_so ∙ (ap (λ b. is_some (decision (record (trying_of H n) { again = b }) e.call e.answer (decided H n))) (no_again (work H n) k (try_number (tries H n)) s) ∙ x.0);
           begun = stays_begun H (Heard e) k w.begun;
           over = over_now x.1;
         }))

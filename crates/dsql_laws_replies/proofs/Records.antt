@@ -1,17 +1,17 @@
 -- A call's record after an answer to the call, and after an event that isn't one.
-use Rattle.std.proofs.Common.{◌≡◌, ◌≢◌, ℕ, ◌==◌, Bool, true, false, cond, List, ◌∷◌, length, refl, ap, ◌∙◌, arith}
+use Rattle.std.proofs.Common.{◌≡◌, ◌≢◌, ℕ, ◌==◌, Bool, true, false, cond, List, ◌∷◌, refl, ap, ◌∙◌, arith}
 use Rattle.dsql_laws_calls.specs.driver.Fits.{fits_of, is_memory}
 use Rattle.dsql_laws_calls.specs.journal.declared.entry.Entry.{Entry}
 use Rattle.dsql_laws_calls.specs.journal.Facts.{MayFollow}
 use Rattle.dsql_laws_calls.proofs.journal.Sentences.{MayFollow-of}
 use Rattle.dsql_laws_calls.proofs.laws_work.Rows.{not_true, row_at}
-use Rattle.dsql_laws_calls.specs.history.Readers.Tries.{try_number, tries, tries_again}
+use Rattle.dsql_laws_calls.specs.history.Readers.Tries.{try_number, tries}
 use Rattle.dsql_laws_calls.proofs.laws.Tests.{other_number}
 use Rattle.dsql_laws_calls.specs.history.declared.event.Event.{Event}
 use Rattle.dsql_laws_calls.specs.history.declared.event.Event.TheVariants.{Entered, Heard, Replied}
 use Rattle.dsql_laws_calls.specs.history.declared.work.Work.TheVariants.{Look}
-use Rattle.dsql_laws_calls.specs.history.Readers.Calls.{calls, call_record, nobody, decided, decided_by}
-use Rattle.dsql_laws_calls.specs.history.Readers.Decisions.{decision}
+use Rattle.dsql_laws_calls.specs.history.Readers.Calls.{calls, call_record, nobody, decided, decided_by, trying}
+use Rattle.dsql_laws_calls.specs.history.Readers.Decisions.{decision, Trying}
 use Rattle.dsql_laws_calls.specs.history.Readers.Journals.{journal}
 use Rattle.dsql_laws_calls.specs.history.Readers.Unfinished.{is_unfinished}
 use Rattle.dsql_laws_calls.specs.history.Readers.Works.{work}
@@ -21,10 +21,14 @@ use Rattle.dsql_laws_calls.proofs.LineParts.{heard_follows}
 use Rattle.dsql_laws_calls.proofs.Stays.{as_many, has_entered}
 use Rattle.dsql_laws_calls.proofs.Works.{enters_next, old_record, other_replied, still_unfinished}
 
+-- Returns how call n stands in its newest try.
+abbrev pub trying_of : List Event → ℕ → Trying
+trying_of H n = trying (try_number (tries H n)) (work H n) (call_record H n)
+
 -- After an answer, its call has settled what the answer decides.
 pub own_record : (H : List Event) (e : Entry) → (work H e.call_no ≡ Look → ⊥) → e.call_no ≢ 0
     → decided (Heard e ∷ H) e.call_no
-    ≡ decision (tries_again (work H e.call_no) (try_number (tries H e.call_no))) (try_number (tries H e.call_no)) (length (call_record H e.call_no).params) (work H e.call_no) e.call e.answer (decided H e.call_no)
+    ≡ decision (trying_of H e.call_no) e.call e.answer (decided H e.call_no)
 own_record H e busy some =
     let m = e.call_no in
     let less = has_entered H m busy in
@@ -35,7 +39,7 @@ own_record H e busy some =
     ap (λ r. r.decided) here
     ∙ ap
     (λ (b : Bool).
-    (cond b (call_record H m) (record (call_record H m) { decided = decision (tries_again (work H m) (try_number (tries H m))) (try_number (tries H m)) (length (call_record H m).params) (work H m) e.call e.answer (decided H m) })).decided)
+    (cond b (call_record H m) (record (call_record H m) { decided = decision (trying_of H m) e.call e.answer (decided H m) })).decided)
     of_call
 
 -- The record of such a call stays the same until an answer or its reply.

@@ -1,5 +1,5 @@
 -- A query on the database that has made its rows has a settled reply.
-use Rattle.std.proofs.Common.{◌≡◌, ◌≢◌, ℕ, ◌==◌, ◌⊎◌, inl, inr, Bool, true, false, List, [], ◌∷◌, length, Option, Some, None, is_some, refl, sym, ap, subst, ◌∙◌}
+use Rattle.std.proofs.Common.{◌≡◌, ◌≢◌, ℕ, ◌==◌, ◌⊎◌, inl, inr, Bool, true, false, List, [], ◌∷◌, Option, Some, None, is_some, refl, sym, ap, subst, ◌∙◌}
 use Rattle.dsql_laws_calls.specs.course.declared.course.Wish.TheVariants as wishes
 use Rattle.dsql_laws_calls.specs.course.Made.{own_cursor, rows_are_over}
 use Rattle.dsql_laws_calls.specs.driver.declared.answer.DriverAnswer.{DriverAnswer}
@@ -19,16 +19,15 @@ use Rattle.dsql_laws_calls.specs.works.declared.work.Aim.TheVariants as aims
 use Rattle.dsql_laws_calls.proofs.laws_work.HandedLines.{SentOver, due_over}
 use Rattle.dsql_laws_calls.proofs.laws_work.Rows.{same_or_not}
 use Rattle.dsql_laws_calls.specs.history.Readers.HandedOut.{fetched, handed_out, rows_by, rows_heard}
-use Rattle.dsql_laws_calls.specs.history.Readers.Tries.{try_number, tries, tries_again}
 use Rattle.dsql_laws_calls.proofs.laws.Tests.{other_number}
 use Rattle.dsql_laws_calls.specs.history.declared.event.Event.{Event}
 use Rattle.dsql_laws_calls.specs.history.declared.event.Event.TheVariants.{Heard}
 use Rattle.dsql_laws_calls.specs.history.declared.reply.Reply.{Reply}
 use Rattle.dsql_laws_calls.specs.history.declared.work.Work.{Work}
 use Rattle.dsql_laws_calls.specs.history.declared.work.Work.TheVariants.{HandOut, Fetch}
-use Rattle.dsql_laws_calls.specs.history.Readers.Calls.{call_record, decided}
+use Rattle.dsql_laws_calls.specs.history.Readers.Calls.{decided}
 use Rattle.dsql_laws_calls.specs.history.Readers.Course.{caps}
-use Rattle.dsql_laws_calls.specs.history.Readers.Decisions.{decision}
+use Rattle.dsql_laws_calls.specs.history.Readers.Decisions.{decision, Trying}
 use Rattle.dsql_laws_calls.specs.history.Readers.Journals.{heard_in}
 use Rattle.dsql_laws_calls.specs.history.Readers.Pool.{place}
 use Rattle.dsql_laws_calls.specs.history.Readers.Unfinished.{is_unfinished}
@@ -50,29 +49,29 @@ use Rattle.dsql_laws_calls.proofs.Stays.{not_looking}
 use Rattle.dsql_laws_calls.proofs.Works.{other_heard, work_stays}
 use Rattle.dsql_laws_replies.proofs.Awaiting.{plain_call}
 use Rattle.dsql_laws_replies.proofs.Decides.{closing_decides}
-use Rattle.dsql_laws_replies.proofs.Records.{own_record, record_stays}
+use Rattle.dsql_laws_replies.proofs.Records.{own_record, record_stays, trying_of}
 
 none_some : {A X : Type 0} (o : Option X) → o ≡ None → is_some o ≡ true → A
 none_some None none some = absurd cc
 none_some (Some x) none some = absurd cc
 
 -- The answer that makes the rows decides a reply: their columns.
-new_told : (H : List Event) (again : Bool) (number count m : ℕ) (it : Work) (q : DriverCall) (a : DriverAnswer) (d : Option Reply) (R : Made) → rows_of m R ≡ None → is_some (rows_of m (rows_heard H it m q a R)) ≡ true
-    → is_some (decision again number count it q a d) ≡ true
-new_told H again number count m (HandOut s label) (Query input params) (answers.Cursor cursor columns) d R none some = refl
-new_told H again number count m (Fetch k) (Next cursor) a d R none some = none_some (rows_of m R) none (sym (some_changed (fetched a) k m R) ∙ some)
-new_told H again number count m _ q a d R none some = none_some (rows_of m R) none some
+new_told : (H : List Event) (t : Trying) (m : ℕ) (it : Work) (q : DriverCall) (a : DriverAnswer) (d : Option Reply) (R : Made) → rows_of m R ≡ None → is_some (rows_of m (rows_heard H it m q a R)) ≡ true
+    → is_some (decision (record t { work = it }) q a d) ≡ true
+new_told H t m (HandOut s label) (Query input params) (answers.Cursor cursor columns) d R none some = refl
+new_told H t m (Fetch k) (Next cursor) a d R none some = none_some (rows_of m R) none (sym (some_changed (fetched a) k m R) ∙ some)
+new_told H t m _ q a d R none some = none_some (rows_of m R) none some
 
 -- What comes over the rows later leaves a reply decided.
 
-over_keeps : (again over : Bool) (number count : ℕ) (it : Work) (q : DriverCall) (a : DriverAnswer) (d : Option Reply) → hands_out it ≡ true → SentOver q wishes.Nothing over → is_some d ≡ true
-    → is_some (decision again number count it q a d) ≡ true
-over_keeps again over number count (HandOut s label) (Next rows) a d hands sent h = let clash = sent.0 in absurd cc
-over_keeps again over number count (HandOut s label) (CloseRows rows) a d hands sent h = closing_decides number a d h
-over_keeps again over number count (HandOut s label) (CloseStmt handle) a d hands sent h = h
-over_keeps again over number count (HandOut s label) Valid a d hands sent h = h
-over_keeps again over number count (HandOut s label) q a d hands sent h = absurd sent
-over_keeps again over number count it q a d hands sent h = absurd cc
+over_keeps : (t : Trying) (over : Bool) (it : Work) (q : DriverCall) (a : DriverAnswer) (d : Option Reply) → hands_out it ≡ true → SentOver q wishes.Nothing over → is_some d ≡ true
+    → is_some (decision (record t { work = it }) q a d) ≡ true
+over_keeps t over (HandOut s label) (Next rows) a d hands sent h = let clash = sent.0 in absurd cc
+over_keeps t over (HandOut s label) (CloseRows rows) a d hands sent h = closing_decides t.number a d h
+over_keeps t over (HandOut s label) (CloseStmt handle) a d hands sent h = h
+over_keeps t over (HandOut s label) Valid a d hands sent h = h
+over_keeps t over (HandOut s label) q a d hands sent h = absurd sent
+over_keeps t over it q a d hands sent h = absurd cc
 
 hands_aim : (it : Work) → hands_out it ≡ true → aim_of it ≡ aims.HandOut
 hands_aim (HandOut s label) h = refl
@@ -116,21 +115,12 @@ own_told H e l numbered own before some = ap (λ o. is_some o) (own_record H e (
     m : ℕ
     m = e.call_no
 
-    again : Bool
-    again = tries_again (work H e.call_no) (try_number (tries H e.call_no))
-
-    number : ℕ
-    number = try_number (tries H e.call_no)
-
-    count : ℕ
-    count = length (call_record H e.call_no).params
-
-    by : (o : Option Rows) → rows_by H m ≡ o → is_some (decision again number count (work H m) e.call e.answer (decided H m)) ≡ true
-    by None none = new_told H again number count m (work H m) e.call e.answer (decided H m) (handed_out H) none some
+    by : (o : Option Rows) → rows_by H m ≡ o → is_some (decision (trying_of H m) e.call e.answer (decided H m)) ≡ true
+    by None none = new_told H (trying_of H m) m (work H m) e.call e.answer (decided H m) (handed_out H) none some
     by (Some r) is =
         let made : is_some (rows_by H m) ≡ true = ap (λ o. is_some o) is in
         let sent = own_over H e l numbered own made in
-        over_keeps again sent.0 number count (work H m) e.call e.answer (decided H m) (rows_hand_out H m made) sent.1 (before made)
+        over_keeps (trying_of H m) sent.0 (work H m) e.call e.answer (decided H m) (rows_hand_out H m made) sent.1 (before made)
 
 quietly : (H : List Event) (e : Event) (n : ℕ) → Lawful (e ∷ H) → is_answer e ≡ false → is_unfinished (e ∷ H) n ≡ true → asks (work (e ∷ H) n) ≡ true → is_some (rows_by (e ∷ H) n) ≡ true
     → (is_unfinished H n ≡ true → asks (work H n) ≡ true → is_some (rows_by H n) ≡ true → is_some (decided H n) ≡ true) → is_some (decided (e ∷ H) n) ≡ true

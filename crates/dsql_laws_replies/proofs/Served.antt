@@ -19,7 +19,7 @@ use Rattle.dsql_laws_calls.proofs.laws_work.HandedLines.{SentAt, due_over}
 use Rattle.dsql_laws_calls.proofs.laws_work.Lines.{made_on, goes_due, sent_of}
 use Rattle.dsql_laws_calls.specs.history.declared.record.Try.{Try}
 use Rattle.dsql_laws_calls.specs.history.declared.record.Try.TheVariants.{Served, Refused}
-use Rattle.dsql_laws_calls.specs.history.Readers.Tries.{try_number, with_try, lost, was_served, tries, tries_again, newest_answer, loses}
+use Rattle.dsql_laws_calls.specs.history.Readers.Tries.{with_try, lost, was_served, tries, newest_answer, loses}
 use Rattle.dsql_laws_calls.proofs.laws.Tests.{both, same_number, same_itself, other_number, together}
 use Rattle.dsql_laws_replies.proofs.Awaited.{is_one, needs_answer, awaits}
 use Rattle.dsql_laws_calls.specs.history.declared.event.Event.{Event}
@@ -59,7 +59,7 @@ use Rattle.dsql_laws_calls.proofs.Sound.{same_lent}
 use Rattle.dsql_laws_replies.proofs.Awaiting.{awaited_by, begin_awaited, plain_awaited, awaited_as, Needs, Awaits, plain_call, awaiting_sends, still_awaits, awaits_lent, other_awaits}
 use Rattle.dsql_laws_replies.proofs.Begins.{begin_awaits, BeginSettles, begin_settles}
 use Rattle.dsql_laws_replies.proofs.Decides.{settled_on}
-use Rattle.dsql_laws_replies.proofs.Records.{own_record, record_stays, fitting}
+use Rattle.dsql_laws_replies.proofs.Records.{own_record, record_stays, fitting, trying_of}
 
 never : (b : Bool) → b ≡ true → b ≡ false → ⊥
 never b x y = cc
@@ -90,7 +90,7 @@ settles_quiet H e n l none own u needs (inr a) =
 
 -- Returns what an answer to the call decides.
 abbrev after_it : List Event → Entry → ℕ → Option Reply
-after_it H e n = decision (tries_again (work H n) (try_number (tries H n))) (try_number (tries H n)) (length (asked_by H n).params) (work H n) e.call e.answer (decided H n)
+after_it H e n = decision (trying_of H n) e.call e.answer (decided H n)
 
 -- The event is the call's own answer, on the connection that is lent to it.
 own_step : (H : List Event) (e : Entry) (own : Owner) → Lawful (Heard e ∷ H) → place H e.conn ≡ Some (Lent e.tenure own) → (e.call_no == number_of own) ≡ true → asks (work H (number_of own)) ≡ true
@@ -108,16 +108,12 @@ own_step H e own l is mine asking due needs good before = by (begins (work H (nu
     L : List Entry
     L = heard_in H e.conn e.tenure
 
-    again : Bool
-    again = tries_again (work H (number_of own)) (try_number (tries H (number_of own)))
-
     begin_case : begins (work H (number_of own)) ≡ true → (is_some (decided H (number_of own)) ≡ true) ⊎ (begin_awaits (line_among (number_of own) (heard_in H e.conn e.tenure)) ≡ true)
         → (is_some (after_it H e (number_of own)) ≡ true) ⊎ (begin_awaits (line_among (number_of own) (e ∷ heard_in H e.conn e.tenure)) ≡ true)
     begin_case begin b =
         let at = begin_there H e.conn e.tenure own begin (begin_owner H e.conn e.tenure own l.0 is begin) in
         let s : BeginSettles (after_it H e (number_of own)) (e ∷ line_among (number_of own) (heard_in H e.conn e.tenure)) =
-        begin_settles (tries_again (work H (number_of own)) (try_number (tries H (number_of own)))) (try_number (tries H (number_of own))) (length (asked_by H (number_of own)).params) (caps H) (is_reset_due H e.conn) at.0 at.1 (work H (number_of own))
-        (line_among (number_of own) (heard_in H e.conn e.tenure)) e (decided H (number_of own)) b (ap (λ d. is_due d e.call) (sym at.2) ∙ due) fits.0 fits.1 good
+        begin_settles (trying_of H (number_of own)) (caps H) (is_reset_due H e.conn) at.0 at.1 (line_among (number_of own) (heard_in H e.conn e.tenure)) e (decided H (number_of own)) b (ap (λ d. is_due d e.call) (sym at.2) ∙ due) fits.0 fits.1 good
         in
         subst (λ M. BeginSettles (after_it H e (number_of own)) M) (sym (grows_own (number_of own) e (heard_in H e.conn e.tenure) mine)) s
 
@@ -144,7 +140,7 @@ own_step H e own l is mine asking due needs good before = by (begins (work H (nu
           heard = fits.1;
         } in
         or_cases (is_some (after_it H e (number_of own))) (awaits (is_one asked.aim) (e ∷ heard_in H e.conn e.tenure) (length asked.params))
-        (settled_on (tries_again (work H (number_of own)) (try_number (tries H (number_of own)))) (try_number (tries H (number_of own))) (caps H) reset asked.text asked.params (work H (number_of own)) wishes.Nothing (heard_in H e.conn e.tenure) e.call
+        (settled_on (trying_of H (number_of own)) (caps H) reset asked.text asked.params (work H (number_of own)) wishes.Nothing (heard_in H e.conn e.tenure) e.call
         e.answer (decided H (number_of own)) asking nobegin needs (λ fetch. unlike fetch) x sent (some_or (is_some (decided H (number_of own))) (awaits (is_one asked.aim) (heard_in H e.conn e.tenure) (length asked.params)) b) good)
       where
         unlike : wishes.Nothing ≡ wishes.Fetch → ⊥
