@@ -27,7 +27,7 @@ use Rattle.dsql_history.specs.Readers.Unfinished.{is_unfinished}
 use Rattle.dsql_history.specs.Readers.Works.{scope, work}
 use Rattle.dsql_engine_calls.specs.declared.call.CallRow.{CallRow}
 use Rattle.dsql_engine_calls.specs.Calls.{KeepsCalls, row_at}
-use Rattle.dsql_engine_calls.specs.Settling.{ended_before, ended_in, settled_in, told_beside, told_in, told_served}
+use Rattle.dsql_engine_calls.specs.Settling.{ended_before, ended_in, settled_in, told_beside, told_by_tries_or_end, told_served}
 use Rattle.dsql_engine_calls.proofs.Borrowers.{row_work}
 use Rattle.dsql_engine_calls.proofs.CallRows.{call_at}
 use Rattle.dsql_engine_calls.proofs.KeptTries.{kept_told}
@@ -45,7 +45,7 @@ unsent true end = refl
 unsent false end = refl
 
 -- The row gives the reply on the database and in a transaction.
-in_as : (H : List Event) (n : ℕ) (w : Work) (it : Scope) → told_in (db_end H) (ended_in H n it) w (kept (tries H n)) it ≡ readers.told_in H n w it
+in_as : (H : List Event) (n : ℕ) (w : Work) (it : Scope) → told_by_tries_or_end (db_end H) (ended_in H n it) w (kept (tries H n)) it ≡ readers.told_by_scope H n w it
 in_as H n w Db = kept_told H w (tries H n)
 in_as H n w (Tx k) = unsent (has_begun_to_send H n) (tx_end H k)
 

@@ -37,9 +37,9 @@ told_trying closed work tried =
 
 -- Returns the reply by the tries on the database. In a transaction, returns it by what has ended the
 -- transaction, as long as the call has sent nothing there.
-abbrev pub told_in : Option DbEnd → Option TxEnd → Work → Tried → Scope → Option Reply
-told_in closed ended work tried Db = told_trying closed work tried
-told_in closed ended work tried (Tx k) = done_with ended
+abbrev pub told_by_tries_or_end : Option DbEnd → Option TxEnd → Work → Tried → Scope → Option Reply
+told_by_tries_or_end closed ended work tried Db = told_trying closed work tried
+told_by_tries_or_end closed ended work tried (Tx k) = done_with ended
 
 -- Returns what has ended the transaction in which call n works, if it works in one, as long as it has sent
 -- nothing there.
@@ -57,7 +57,7 @@ told_beside closed ended (Fetch k) tried = Some (reply.Truth false)
 told_beside closed ended (Close k) tried = Some reply.Ok
 told_beside closed ended (End k) tried = None
 told_beside closed ended Look tried = None
-told_beside closed ended work tried = told_in closed ended work tried (scope work)
+told_beside closed ended work tried = told_by_tries_or_end closed ended work tried (scope work)
 
 -- Returns the reply that the lending of a connection settles: that of a ping, if the driver can't ping.
 abbrev pub told_served : Bool → Work → Option Try → Option Reply

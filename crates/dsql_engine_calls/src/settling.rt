@@ -3,7 +3,7 @@ ghost use Rattle.std.specs.Prelude.{◌≡◌, Some, true, is_some, vec_len, vec
 ghost use Rattle.dsql_history.specs.Readers.Course.{or_end};
 ghost use Rattle.dsql_history.specs.course.Made.{or_else};
 ghost use Rattle.dsql_engine_calls.specs.Calls.{row_at, with_row};
-ghost use Rattle.dsql_engine_calls.specs.Settling.{replied, settled_in, told_beside, told_in, told_served, told_trying};
+ghost use Rattle.dsql_engine_calls.specs.Settling.{replied, settled_in, told_beside, told_by_tries_or_end, told_served, told_trying};
 ghost use Rattle.dsql_history.specs.Readers.Works.{scope};
 
 use crate::call::CallRow;
@@ -96,19 +96,19 @@ fn told_in_row(
         (Work::Close(_), _) => Some(Reply::Ok),
         (Work::End(_) | Work::Look, _) => None,
         (Work::Ping, Some(Try::Served)) if !pinger => Some(Reply::Ok),
-        _ => told_in(work, tried, closed_by, ended_by),
+        _ => told_by_tries_or_end(work, tried, closed_by, ended_by),
     }
 }
 
 /// Returns the reply of a call with this work and these tries, if it is settled. The call works on the
 /// database, or in a transaction in which it has sent nothing.
-fn told_in(
+fn told_by_tries_or_end(
     work: &Work,
     tried: Tried,
     closed_by: Option<DbEnd>,
     ended_by: Option<TxEnd>,
 ) -> Option<Reply>
-    ensures { result ≡ told_in closed_by ended_by work.now tried (scope work.now) }
+    ensures { result ≡ told_by_tries_or_end closed_by ended_by work.now tried (scope work.now) }
 {
     match scope(work) {
         Scope::Db => told_trying(work, tried, closed_by),

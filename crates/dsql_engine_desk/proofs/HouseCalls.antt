@@ -27,7 +27,7 @@ use Rattle.dsql_laws_calls.proofs.laws.Tests.{both, same_number}
 use Rattle.dsql_engine_calls.specs.declared.call.CallRow.{CallRow}
 use Rattle.dsql_engine_desk.specs.Adding.{opens_or_shuts}
 use Rattle.dsql_engine_calls.specs.Calls.{KeepsCalls, nobody, row_at}
-use Rattle.dsql_engine_effects.specs.Heard.{is_fetch_or_query, HearsRows, calls_after, calls_told, told_in}
+use Rattle.dsql_engine_effects.specs.Heard.{is_fetch_or_query, HearsRows, calls_after, calls_told, call_row_after}
 use Rattle.dsql_engine_effects.proofs.AsHeard.{rows_as_heard}
 use Rattle.dsql_engine_effects.proofs.Beside.{rows_beside, calls_beside}
 use Rattle.dsql_engine_desk.proofs.Kept.{heard_keeps}
@@ -48,7 +48,7 @@ is_no_query q opens = absurd cc
 
 nobody_told : (w : Work) (k : ℕ) (e : Entry) (rows : List CallRow) → e.call_no ≡ 0 → calls_told k w e rows ≡ rows
 nobody_told w k e rows house =
-    let none : told_in k w e (row_at rows e.call_no) ≡ row_at rows e.call_no = rw house refl in
+    let none : call_row_after k w e (row_at rows e.call_no) ≡ row_at rows e.call_no = rw house refl in
     ap (slice_set rows e.call_no) none ∙ set-get_or rows e.call_no nobody
 
 pub house_keeps : (H : List Event) (e : Entry) (rows : List CallRow) → Lawful H → opens_or_shuts e.call ≡ true → e.call_no ≡ 0 → KeepsCalls H rows → KeepsCalls (Heard e ∷ H) rows

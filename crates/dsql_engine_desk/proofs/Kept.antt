@@ -46,7 +46,7 @@ use Rattle.dsql_engine_calls.specs.Calls.{KeepsCalls, nobody, row_at, with_ender
 use Rattle.dsql_engine_calls.specs.Tried.{kept, untried, one_more, newest_lost, number, most_counted}
 use Rattle.dsql_engine_calls.proofs.KeptTries.{kept_lost, kept_more, kept_number}
 use Rattle.dsql_engine_calls.proofs.Borrowers.{row_work}
-use Rattle.dsql_engine_effects.specs.Heard.{Decides, HearsRows, calls_after, calls_told, told_in, tries_after}
+use Rattle.dsql_engine_effects.specs.Heard.{Decides, HearsRows, calls_after, calls_told, call_row_after, tries_after}
 use Rattle.dsql_engine_calls.specs.Tries.{tried_by, tried_by_all}
 use Rattle.dsql_engine_calls.specs.Settling.{replied}
 use Rattle.dsql_engine_effects.specs.Starts.{closed_rows, Starts, closed_by}
@@ -238,7 +238,7 @@ heard_one H e it k rows l is keeps m left =
     let within : n < length rows = omega (arith, in_range, many, its) in
     let loss : loses it e ≡ loses (work H m) e = ap (λ (w : Work). loses w e) (sym is) ∙ ap (λ (i : ℕ). loses (work H i) e) (sym its) in
     ap (λ (i : ℕ). (row_at (calls_told k it e rows) i).tried) its
-    ∙ ap (λ (row : CallRow). row.tried) (changed_at (told_in k it e) n rows within)
+    ∙ ap (λ (row : CallRow). row.tried) (changed_at (call_row_after k it e) n rows within)
     ∙ ap (λ (b : Bool). cond b (row_at rows n).tried (tries_after it e (row_at rows n).tried)) own
     ∙ ap (λ (i : ℕ). tries_after it e (row_at rows i).tried) (sym its)
     ∙ ap (tries_after it e) (keeps.tried m left)
@@ -246,7 +246,7 @@ heard_one H e it k rows l is keeps m left =
     ∙ ap (λ (b : Bool). kept (cond b (lost (tries H m)) (tries H m))) (loss ∙ sym (ap (λ (b : Bool). b && loses (work H m) e) here)))
     (λ apart.
     let there : (n == m) ≡ false = grind (arith, nat_tests, apart) in
-    ap (λ (row : CallRow). row.tried) (changed_beside (told_in k it e) n m rows apart)
+    ap (λ (row : CallRow). row.tried) (changed_beside (call_row_after k it e) n m rows apart)
     ∙ keeps.tried m left
     ∙ sym (ap (λ (b : Bool). kept (cond (b && loses (work H m) e) (lost (tries H m)) (tries H m))) there))
   where
@@ -257,7 +257,7 @@ pub heard_keeps : (H : List Event) (e : Entry) (it : Work) (k : ℕ) (rows : Lis
     → KeepsCalls (Heard e ∷ H) (calls_after it e.call_no e.call e.answer (handed_out H) (calls_told k it e rows))
 heard_keeps H e it k rows l is counts hears keeps =
     let n = e.call_no in
-    let change = told_in k it e in
+    let change = call_row_after k it e in
     let told = calls_told k it e rows in
     let many = as_many_rows H rows keeps in
     let same_length : length told ≡ length rows = length-set rows n (change (row_at rows n)) in

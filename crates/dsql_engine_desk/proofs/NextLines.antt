@@ -13,7 +13,7 @@ use Rattle.dsql_laws_calls.specs.journal.Kinds.{number_of}
 use Rattle.dsql_laws_calls.specs.journal.Readers.{went_bad}
 use Rattle.dsql_laws_calls.specs.pool.declared.conn.Place.{Place}
 use Rattle.dsql_laws_calls.specs.pool.declared.conn.Place.TheVariants.{Lent}
-use Rattle.dsql_laws_calls.specs.works.Line.{Asked, line_after}
+use Rattle.dsql_laws_calls.specs.works.Line.{Asked}
 use Rattle.dsql_engine_exchanged.specs.declared.bare.BareCall.{BareCall}
 use Rattle.dsql_engine_exchanged.specs.Beginning.{beginning_in}
 use Rattle.dsql_engine_exchanged.specs.Filled.{filled}
@@ -29,7 +29,7 @@ use Rattle.dsql_laws_calls.specs.history.Readers.Journals.{heard_in, journal}
 use Rattle.dsql_laws_calls.specs.history.Readers.Lines.{line_among}
 use Rattle.dsql_laws_calls.specs.history.Readers.Pool.{home, place}
 use Rattle.dsql_laws_calls.specs.history.Readers.Works.{borrower, owner_as, owner_of, scope, work}
-use Rattle.dsql_laws_calls.specs.history.Rules.Sent.{asked_by, begin_line, inner_after, is_reset_due, line_at as line_at_place, line_of, line_with}
+use Rattle.dsql_laws_calls.specs.history.Rules.Sent.{asked_by, begin_line, db_line, is_reset_due, Sender, sender, tx_line, line_at as line_at_place, line_for, line_of}
 use Rattle.dsql_laws_calls.specs.history.Legal.{Lawful}
 use Rattle.dsql_laws_calls.proofs.Lines.{line_here, line_there}
 use Rattle.dsql_laws_calls.proofs.Inside.{inside_uses}
@@ -88,7 +88,7 @@ next_begins H n c wish level read_only sent l lent options so =
     so (asked_by H n) (line_among n (heard_in H c it.tenure)) (sym (kept_beginning H c it.tenure n l at))
     ∙ sym
     (line_here H c it.tenure (owners.Tx n) n wish l at own
-    ∙ ap (λ w. line_with H n c (went_bad (journal H c)) wish w (scope w) (line_among n (heard_in H c it.tenure))) b.is)
+    ∙ ap (λ w. line_for w (scope w) (sender H n c wish) (line_among n (heard_in H c it.tenure))) b.is)
   where
     own_line : (label : List ℕ) → work H n ≡ Begin label level read_only → borrower H n ≡ n
     own_line label begin = rw begin refl
@@ -100,9 +100,9 @@ db_owner (Begin label level read_only) n h = absurd cc
 db_owner w n h = refl
 
 -- A call on the database that begins no transaction sends next what its line says.
-on_db : (H : List Event) (n c : ℕ) (bad : Bool) (wish : Wish) (w : Work) (line : List Entry) → options_of w ≡ None → line_with H n c bad wish w Db line ≡ line_after (caps H) (is_reset_due H c) (asked_by H n) wish line
-on_db H n c bad wish (Begin label level read_only) line h = absurd cc
-on_db H n c bad wish w line h = refl
+on_db : (S : Sender) (w : Work) (line : List Entry) → options_of w ≡ None → line_for w Db S line ≡ db_line S line
+on_db S (Begin label level read_only) line h = absurd cc
+on_db S w line h = refl
 
 own_borrower : (H : List Event) (n : ℕ) (w : Work) → work H n ≡ w → has_line w ≡ true → scope w ≡ Db → borrower H n ≡ n
 own_borrower H n (Execute Db) is line db = rw is refl
@@ -127,13 +127,13 @@ next_on_db H n c wish sent l lent line options db so =
     ∙ (told_as_heard (caps H) (is_reset_due H c) (asked_by H n) wish heard
     ∙ sym
     (line_here H c it.tenure (owners.Call n) n wish l at own
-    ∙ (ap (λ s. line_with H n c (went_bad (journal H c)) wish (work H n) s heard) db ∙ on_db H n c (went_bad (journal H c)) wish (work H n) heard options))))
+    ∙ (ap (λ s. line_for (work H n) s (sender H n c wish) heard) db ∙ on_db (sender H n c wish) (work H n) heard options))))
 
 -- A call in a transaction.
 
-in_tx : (H : List Event) (n c : ℕ) (bad : Bool) (wish : Wish) (w : Work) (k : ℕ) (line : List Entry) → options_of w ≡ None → line_with H n c bad wish w (Tx k) line ≡ inner_after (caps H) bad (asked_by H n) wish line
-in_tx H n c bad wish (Begin label level read_only) k line h = absurd cc
-in_tx H n c bad wish w k line h = refl
+in_tx : (S : Sender) (w : Work) (k : ℕ) (line : List Entry) → options_of w ≡ None → line_for w (Tx k) S line ≡ tx_line S line
+in_tx S (Begin label level read_only) k line h = absurd cc
+in_tx S w k line h = refl
 
 pub next_in_tx : (H : List Event) (n c k : ℕ) (wish : Wish) (sent : Option BareCall) → Lawful H → lent_under H (borrower H n) ≡ Some c → options_of (work H n) ≡ None → scope (work H n) ≡ Tx k
     → option_map (filled (asked_by H n)) sent ≡ inside_told (caps H) (there_at H c).ending.bad (asked_by H n) wish (line_at (lines H).calls n).heard → option_map (filled (asked_by H n)) sent ≡ line_of H n wish
@@ -149,4 +149,4 @@ next_in_tx H n c k wish sent l lent options inside so =
     ∙ (ap (λ made. inside_told (caps H) bad (asked_by H n) wish made.heard) (kept_line H c it.tenure n k l inside at)
     ∙ (ap (inside_told (caps H) bad (asked_by H n) wish) (heard_exchanged line)
     ∙ (inside_as_heard (caps H) bad (asked_by H n) wish line
-    ∙ sym (line_here H c it.tenure (owners.Tx k) n wish l at uses ∙ (ap (λ s. line_with H n c bad wish (work H n) s line) inside ∙ in_tx H n c bad wish (work H n) k line options))))))
+    ∙ sym (line_here H c it.tenure (owners.Tx k) n wish l at uses ∙ (ap (λ s. line_for (work H n) s (sender H n c wish) line) inside ∙ in_tx (sender H n c wish) (work H n) k line options))))))

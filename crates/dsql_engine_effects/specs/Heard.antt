@@ -22,7 +22,7 @@ use Rattle.dsql_history.specs.declared.work.Scope.TheVariants as scopes
 use Rattle.dsql_history.specs.declared.work.Work.{Work}
 use Rattle.dsql_history.specs.declared.work.Work.TheVariants.{HandOut, Fetch}
 use Rattle.dsql_history.specs.Readers.Calls.{decided_by}
-use Rattle.dsql_history.specs.Readers.Decisions.{decision, fetch_decision, query_decision}
+use Rattle.dsql_history.specs.Readers.Decisions.{Trying, decision, fetch_decision, query_decision}
 use Rattle.dsql_history.specs.Readers.Transactions.{end_of}
 use Rattle.dsql_history.specs.Readers.Tries.{loses, tries_again}
 use Rattle.dsql_engine_calls.specs.declared.call.CallRow.{CallRow}
@@ -97,7 +97,8 @@ decided_as reply it = record it { decided = reply }
 -- tries again.
 abbrev pub deciding : Bool → ℕ → Work → DriverCall → DriverAnswer → CallRecord → CallRecord
 deciding again number work call answer it =
-    decided_as (decision again number (length it.params) work call answer it.decided) it
+    let stands : Trying = record { again = again; number = number; count = length it.params; work = work } in
+    decided_as (decision stands call answer it.decided) it
 
 -- Returns the tries of a call with this work after one of its driver calls was answered.
 abbrev pub tries_after : Work → Entry → Tried → Tried
@@ -105,8 +106,8 @@ tries_after work e tried = cond (loses work e) (newest_lost tried) tried
 
 -- Returns the row of a call with this work after one of its driver calls was answered in this try. The layer's
 -- own calls are nobody's.
-abbrev pub told_in : ℕ → Work → Entry → CallRow → CallRow
-told_in number work e row =
+abbrev pub call_row_after : ℕ → Work → Entry → CallRow → CallRow
+call_row_after number work e row =
     record row {
       call = decided_by number work e row.call;
       tried = cond (e.call_no == 0) row.tried
@@ -115,4 +116,4 @@ told_in number work e row =
 
 -- Returns the calls after one of them got the answer to one of its driver calls in this try.
 abbrev pub calls_told : ℕ → Work → Entry → List CallRow → List CallRow
-calls_told number work e calls = with_row e.call_no (told_in number work e) calls
+calls_told number work e calls = with_row e.call_no (call_row_after number work e) calls

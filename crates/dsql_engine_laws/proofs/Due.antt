@@ -52,7 +52,7 @@ use Rattle.dsql_engine_hearing.specs.history.Readers.Unfinished.{is_unfinished}
 use Rattle.dsql_engine_hearing.specs.history.Readers.Works.{borrower, hands_out_in, scope, work, works}
 use Rattle.dsql_engine_hearing.specs.history.Rules.Ending.{end_after, ended_by_call, ending, ending_at, ending_with, first_closing}
 use Rattle.dsql_engine_hearing.specs.history.Rules.Line.{due_for, due_in, due_inside, is_due, sends_in}
-use Rattle.dsql_engine_hearing.specs.history.Rules.Sent.{asked_by, begin_after, begin_line, close_due, is_reset_due, line_at, line_of, line_with, sent_for, untested, wish}
+use Rattle.dsql_engine_hearing.specs.history.Rules.Sent.{begin_after, begin_line, close_due, Sender, sender, line_at, line_for, line_of, line_with, sent_for, untested, wish}
 
 -- A driver call other than a Connect or a Shut is due to itself.
 
@@ -136,16 +136,15 @@ begin_within can reset level read_only (e ∷ earlier) =
     either_within (is_bad e.answer || is_valid e.call) None (begin_after can (Begin level read_only) e) refl
     (either_within (is_begin e.call) (cond (is_done e.answer) None (test_of can)) (Some (Begin level read_only)) (either_within (is_done e.answer) None (test_of can) refl (test_within can)) refl)
 
-with_within : (H : List Event) (n c : ℕ) (bad : Bool) (w : Wish) (it : Work) (s : Scope) (line : List Entry) → is_within (line_with H n c bad w it s line) ≡ true
-with_within H n c bad w (works_of.Begin label level read_only) s line = begin_within (caps H) (is_reset_due H c) level read_only line
-with_within H n c bad w it Db line = line_within (caps H) (is_reset_due H c) (asked_by H n) w line
-with_within H n c bad w it (Tx k) line = inner_within (untested (caps H)) bad (asked_by H n) w (exchanges line) (handed (asked_by H n).aim (exchanges line))
+with_within : (S : Sender) (it : Work) (s : Scope) (line : List Entry) → is_within (line_for it s S line) ≡ true
+with_within S (works_of.Begin label level read_only) s line = begin_within S.can S.reset_due level read_only line
+with_within S it Db line = line_within S.can S.reset_due S.asked S.wish line
+with_within S it (Tx k) line = inner_within (untested S.can) S.bad S.asked S.wish (exchanges line) (handed S.asked.aim (exchanges line))
 
 at_within : (H : List Event) (n : ℕ) (w : Wish) (c : ℕ) (at : Option Place) → is_within (line_at H n w c at) ≡ true
 at_within H n w c (Some (Lent t own)) =
-    let bad = went_bad (journal H c) in
     let line = line_in own n (heard_in H c t) in
-    either_within (number_of own == borrower H n) (line_with H n c bad w (work H n) (scope (work H n)) line) None (with_within H n c bad w (work H n) (scope (work H n)) line) refl
+    either_within (number_of own == borrower H n) (line_with (sender H n c w) line) None (with_within (sender H n c w) (work H n) (scope (work H n)) line) refl
 at_within H n w c at = refl
 
 line_of_within : (H : List Event) (n : ℕ) (w : Wish) → is_within (line_of H n w) ≡ true

@@ -49,7 +49,7 @@ use Rattle.dsql_engine_hearing.specs.history.Readers.Transactions.{is_begun, tx_
 use Rattle.dsql_engine_hearing.specs.history.Readers.Works.{borrower, hands_out_in, scope, work, works}
 use Rattle.dsql_engine_hearing.specs.history.Rules.Ending.{end_after, ended_by_call, ending, ending_at, ending_with, first_closing}
 use Rattle.dsql_engine_hearing.specs.history.Rules.Line.{is_due, tidying}
-use Rattle.dsql_engine_hearing.specs.history.Rules.Sent.{asked_by, begin_after, begin_line, close_due, is_reset_due, line_at, line_of, line_with, untested}
+use Rattle.dsql_engine_hearing.specs.history.Rules.Sent.{begin_after, begin_line, close_due, Sender, sender, line_at, line_for, line_of, line_with, untested}
 use Rattle.dsql_engine_hearing.specs.history.Legal.{Lawful}
 use Rattle.dsql_engine_hearing.proofs.lines.OverRows.{to_tidy}
 
@@ -111,16 +111,15 @@ begin_opens can reset level read_only (e ∷ earlier) =
     either (is_bad e.answer || is_valid e.call) None (begin_after can (calls.Begin level read_only) e) refl
     (either (is_begin e.call) (cond (is_done e.answer) None (test_of can)) (Some (calls.Begin level read_only)) (either (is_done e.answer) None (test_of can) refl (test_opens can)) refl)
 
-with_opens : (H : List Event) (n c : ℕ) (bad : Bool) (w : Wish) (it : Work) (s : Scope) (L : List Entry) → opens_none (line_with H n c bad w it s L) ≡ true
-with_opens H n c bad w (works_of.Begin label level read_only) s L = begin_opens (caps H) (is_reset_due H c) level read_only L
-with_opens H n c bad w it Db L = call_opens (caps H) (is_reset_due H c) (asked_by H n) w L
-with_opens H n c bad w it (Tx k) L = inner_opens (untested (caps H)) bad (asked_by H n) w (exchanges L) (handed (asked_by H n).aim (exchanges L))
+with_opens : (S : Sender) (it : Work) (s : Scope) (L : List Entry) → opens_none (line_for it s S L) ≡ true
+with_opens S (works_of.Begin label level read_only) s L = begin_opens S.can S.reset_due level read_only L
+with_opens S it Db L = call_opens S.can S.reset_due S.asked S.wish L
+with_opens S it (Tx k) L = inner_opens (untested S.can) S.bad S.asked S.wish (exchanges L) (handed S.asked.aim (exchanges L))
 
 line_opens : (H : List Event) (n : ℕ) (w : Wish) (c : ℕ) (at : Option Place) → opens_none (line_at H n w c at) ≡ true
 line_opens H n w c (Some (Lent t o)) =
     let L = line_in o n (heard_in H c t) in
-    let bad = went_bad (journal H c) in
-    either (number_of o == borrower H n) (line_with H n c bad w (work H n) (scope (work H n)) L) None (with_opens H n c bad w (work H n) (scope (work H n)) L) refl
+    either (number_of o == borrower H n) (line_with (sender H n c w) L) None (with_opens (sender H n c w) (work H n) (scope (work H n)) L) refl
 line_opens H n w c at = refl
 
 -- What closes rows, and what ends a transaction.

@@ -8,7 +8,6 @@ use Rattle.dsql_laws_calls.specs.course.declared.course.Wish.{Wish}
 use Rattle.dsql_laws_calls.specs.course.declared.course.Wish.TheVariants as wishes
 use Rattle.dsql_laws_calls.specs.journal.declared.entry.Entry.{Entry}
 use Rattle.dsql_laws_calls.specs.journal.Kinds.{number_of}
-use Rattle.dsql_laws_calls.specs.journal.Readers.{went_bad}
 use Rattle.dsql_laws_calls.specs.pool.declared.conn.Place.{Place}
 use Rattle.dsql_laws_calls.specs.pool.declared.conn.Place.TheVariants.{Lent}
 use Rattle.dsql_laws_calls.specs.works.Line.{Asked}
@@ -22,8 +21,7 @@ use Rattle.dsql_laws_calls.specs.history.declared.work.Scope.TheVariants.{Db, Tx
 use Rattle.dsql_laws_calls.specs.history.declared.work.Work.{Work}
 use Rattle.dsql_laws_calls.specs.history.declared.work.Work.TheVariants.{Execute, ReadOne, HandOut, Begin, End, Ping, Fetch, Close, Look}
 use Rattle.dsql_laws_calls.specs.history.Readers.Calls.{site}
-use Rattle.dsql_laws_calls.specs.history.Readers.Course.{caps}
-use Rattle.dsql_laws_calls.specs.history.Readers.Journals.{heard_in, journal}
+use Rattle.dsql_laws_calls.specs.history.Readers.Journals.{heard_in}
 use Rattle.dsql_laws_calls.specs.history.Readers.Lines.{line_in}
 use Rattle.dsql_laws_calls.specs.history.Readers.Pool.{place}
 use Rattle.dsql_laws_calls.specs.history.Readers.Transactions.{tx_ender}
@@ -31,7 +29,7 @@ use Rattle.dsql_laws_calls.specs.history.Readers.Unfinished.{is_unfinished}
 use Rattle.dsql_laws_calls.specs.history.Readers.Works.{borrower, scope, work}
 use Rattle.dsql_laws_calls.specs.history.Rules.Ending.{ending}
 use Rattle.dsql_laws_calls.specs.history.Rules.Line.{due_for, due_in, due_inside, sends_in}
-use Rattle.dsql_laws_calls.specs.history.Rules.Sent.{asked_by, is_reset_due, line_at, line_of, line_with, sent_for, wish}
+use Rattle.dsql_laws_calls.specs.history.Rules.Sent.{asked_by, Sender, sender, line_at, line_for, line_of, line_with, sent_for, wish}
 use Rattle.dsql_laws_calls.specs.history.Legal.{Lawful}
 use Rattle.dsql_laws_calls.proofs.Ends.{zero_work}
 use Rattle.dsql_laws_calls.proofs.Makers.{sent_made}
@@ -55,10 +53,10 @@ either_carries asked false o h = tt
 
 -- What is sent in the call's own line.
 
-with_carries : (H : List Event) (n c : ℕ) (bad : Bool) (wish : Wish) (it : Work) (s : Scope) (line : List Entry) → IfSome (line_with H n c bad wish it s line) (Carries (asked_by H n))
-with_carries H n c bad wish (Begin label level read_only) s line = begin_carries (caps H) (is_reset_due H c) level read_only (asked_by H n) line
-with_carries H n c bad wish it Db line = line_carries (caps H) (is_reset_due H c) (asked_by H n) wish line
-with_carries H n c bad wish it (Tx k) line = inner_carries (caps H) bad (asked_by H n) wish line
+with_carries : (S : Sender) (it : Work) (s : Scope) (line : List Entry) → IfSome (line_for it s S line) (Carries S.asked)
+with_carries S (Begin label level read_only) s line = begin_carries S.can S.reset_due level read_only S.asked line
+with_carries S it Db line = line_carries S.can S.reset_due S.asked S.wish line
+with_carries S it (Tx k) line = inner_carries S.can S.bad S.asked S.wish line
 
 line_of_carries : (H : List Event) (n : ℕ) (wish : Wish) → IfSome (line_of H n wish) (Carries (asked_by H n))
 line_of_carries H n wish = at (site H n) (place H (site H n))
@@ -66,8 +64,7 @@ line_of_carries H n wish = at (site H n) (place H (site H n))
     at : (c : ℕ) (p : Option Place) → IfSome (line_at H n wish c p) (Carries (asked_by H n))
     at c (Some (Lent t own)) =
         let line = line_in own n (heard_in H c t) in
-        let bad = went_bad (journal H c) in
-        either_carries (asked_by H n) (number_of own == borrower H n) (line_with H n c bad wish (work H n) (scope (work H n)) line) (with_carries H n c bad wish (work H n) (scope (work H n)) line)
+        either_carries (asked_by H n) (number_of own == borrower H n) (line_with (sender H n c wish) line) (with_carries (sender H n c wish) (work H n) (scope (work H n)) line)
     at c _ = tt
 
 -- What is due.
