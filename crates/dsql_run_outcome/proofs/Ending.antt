@@ -115,7 +115,7 @@ ended_short played ended final before left k asked run rest past w mid lent told
         let leaves = a.left ran out in
         record {
           made = plans_made run l.parts;
-          stops = end_planning run l.lines l.parts rest.past past (l.follows ran) (e.stops ran out (after run l.parts) (l.at ran));
+          stops = end_planning run l.lines l.parts rest.past past leaves.surplus (l.follows ran) (e.stops ran out (after run l.parts) (l.at ran));
           surplus = leaves.surplus;
           may = leaves.may;
           records = leaves.back (plans_made run l.parts) lent.first (l.told ran);

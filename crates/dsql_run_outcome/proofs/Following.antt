@@ -1,5 +1,5 @@
 -- The history of a run follows the lines that were carried out. The argument adds one part for each line.
-use Rattle.std.proofs.Common.{◌≡◌, ◌⊎◌, ℕ, true, false, List, [], ◌∷◌, ◌++◌, refl, sym, ap, subst, ◌∙◌, arith, inl, inr}
+use Rattle.std.proofs.Common.{◌≡◌, ℕ, ◌+◌, suc, true, false, List, [], ◌∷◌, ◌++◌, length, length-append, refl, sym, ap, subst, ◌∙◌, arith, inl, inr}
 use Rattle.std.specs.Prelude.{reverse, map}
 use Rattle.std.specs.List.{list_all}
 use Rattle.std.proofs.lemmas.Bool.{and_from, and_parts}
@@ -16,6 +16,7 @@ use Rattle.dsql_follows.specs.Turns.{clients, has_run_out}
 use Rattle.dsql_follows.specs.Follows.{FollowsLine, FollowsLines, after, told}
 use Rattle.dsql_run_player.specs.Carried.{Carries, CarriesEnd, StopsInEnd, StopsInLine, part}
 use Rattle.dsql_run_wires.specs.Made.{Made}
+use Rattle.dsql_run_wires.specs.Stopped.{NoSurplus, PlansAllOrNothing, Surplus}
 use Rattle.dsql_run_player.specs.Planned.{plans_made, plans_of}
 use Rattle.dsql_run_player.specs.Playing.{Playing, IsAt}
 use Rattle.dsql_script_source.specs.Script.{is_skip}
@@ -133,39 +134,48 @@ line_follows run lines parts line old new f c = record {
   is = c.grows ∙ ap (λ before. c.events ++ before) f.is;
 }
 
--- If the run stopped in a line, the line's fault was planned or wasn't, and the faults of the lines before were
--- planned.
-pub line_stops_planning : (run : Event) (lines : List Line) (parts : List Part) (line : Line) (old new : List Event) (planned : List Made) → FollowsSoFar run lines parts old → StopsInLine (after run parts) line old new
-    → (planned ≡ plans_of line old) ⊎ (planned ≡ []) → StopsPlanning run (lines ++ line ∷ []) new (planned ++ plans_made run parts)
-line_stops_planning run lines parts line old new planned f s which = record {
-  short = record {
-    parts = parts;
-    more = s.events;
-    follows = f.follows;
-    is = s.grows ∙ ap (λ before. s.events ++ before) f.is;
-    stops = inl (record { line = line; is_of = its; begins = s.begins; steps = s.steps; in_turn = s.in_turn });
-  };
-  last = planned;
-  which = elim which [
-    | inl is ↦ inr (record { line = line; is_of = its; are = is ∙ ap (plans_of line) f.is })
-    | inr none ↦ inl none
-  ];
-  all = refl;
-}
-  where
-    its : reverse (lines ++ line ∷ []) ≡ line ∷ lines_of parts
-    its = reverse-append lines (line ∷ []) ∙ ap (λ more. line ∷ more) (sym f.is_of)
+-- Events that were added to a history without making it longer are none.
+no_more : (events old : List Event) → old ≡ events ++ old → events ≡ []
+no_more [] old same = refl
+no_more (e ∷ events) old same =
+    let long : length old ≡ suc (length (events ++ old)) = ap length same in
+    let parts : length (events ++ old) ≡ length events + length old = length-append events old in
+    absurd (omega (arith, long, parts))
+
+last_of : (run : Event) (lines : List Line) (parts : List Part) (line : Line) (old : List Event) → FollowsSoFar run lines parts old → reverse (lines ++ line ∷ []) ≡ line ∷ lines_of parts
+last_of run lines parts line old f = reverse-append lines (line ∷ []) ∙ ap (λ more. line ∷ more) (sym f.is_of)
 
 pub line_stops_short : (run : Event) (lines : List Line) (parts : List Part) (line : Line) (old new : List Event) → FollowsSoFar run lines parts old → StopsInLine (after run parts) line old new
     → StopsShort run (lines ++ line ∷ []) new
-line_stops_short run lines parts line old new f s = (line_stops_planning run lines parts line old new [] f s (inr refl)).short
+line_stops_short run lines parts line old new f s = record {
+  parts = parts;
+  more = s.events;
+  follows = f.follows;
+  is = s.grows ∙ ap (λ before. s.events ++ before) f.is;
+  stops = inl (record { line = line; is_of = last_of run lines parts line old f; begins = s.begins; steps = s.steps; in_turn = s.in_turn });
+}
+
+-- If the run stopped in a line, the faults of the lines before were planned. The line's own fault was planned too,
+-- unless nothing came of the line.
+pub line_stops_planning : (run : Event) (lines : List Line) (parts : List Part) (line : Line) (old new : List Event) (surplus : Surplus) (planned : List Made) → FollowsSoFar run lines parts old → StopsInLine (after run parts) line old new
+    → PlansAllOrNothing (plans_of line old) surplus planned old new → StopsPlanning run (lines ++ line ∷ []) new surplus (planned ++ plans_made run parts)
+unfolding line_stops_short
+line_stops_planning run lines parts line old new surplus planned f s which = record {
+  short = line_stops_short run lines parts line old new f s;
+  last = planned;
+  which = elim which [
+    | inl is ↦ inr (inl (record { line = line; is_of = last_of run lines parts line old f; are = is ∙ ap (plans_of line) f.is }))
+    | inr none ↦ inr (inr (record { no_event = no_more s.events old (sym none.2 ∙ s.grows); no_plan = none.0; no_call = none.1 }))
+  ];
+  all = refl;
+}
 
 -- The part of a line that was carried out has whole steps.
 pub carried_stops : (m : Moment) (line : Line) (old new : Playing) → Carries m line old new → StopsInLine m line old.past new.past
 carried_stops m line old new c = record { events = c.events; grows = c.grows; begins = inr (inr c.follows); steps = c.follows.steps; in_turn = c.follows.in_turn }
 
 -- If the run stopped between two lines, the faults of the lines before were planned.
-pub rest_planning : (caps : Caps) (lines : List Line) (parts : List Part) (past : List Event) → FollowsSoFar (Run 1 caps) lines parts past → StopsPlanning (Run 1 caps) lines past (plans_made (Run 1 caps) parts)
+pub rest_planning : (caps : Caps) (lines : List Line) (parts : List Part) (past : List Event) → FollowsSoFar (Run 1 caps) lines parts past → StopsPlanning (Run 1 caps) lines past NoSurplus (plans_made (Run 1 caps) parts)
 rest_planning caps lines [] past f = record {
   short = record {
     parts = [];
@@ -175,7 +185,7 @@ rest_planning caps lines [] past f = record {
     stops = inr (record { is_of = f.is_of; steps = record { begins = refl; whole = refl; ordered = refl }; in_turn = refl });
   };
   last = [];
-  which = inl refl;
+  which = inl (f.is_of, refl);
   all = refl;
 }
 rest_planning caps lines (p ∷ earlier) past f = record {
@@ -187,7 +197,7 @@ rest_planning caps lines (p ∷ earlier) past f = record {
     stops = inl (record { line = p.line; is_of = sym f.is_of; begins = inr (inr f.follows.1); steps = f.follows.1.steps; in_turn = f.follows.1.in_turn });
   };
   last = plans_of p.line (told (Run 1 caps) earlier);
-  which = inr (record { line = p.line; is_of = sym f.is_of; are = refl });
+  which = inr (inl (record { line = p.line; is_of = sym f.is_of; are = refl }));
   all = refl;
 }
 
@@ -209,8 +219,9 @@ end_follows run lines parts old new f c = (
   refl,
 )
 
-pub end_planning : (run : Event) (lines : List Line) (parts : List Part) (old new : List Event) → FollowsSoFar run lines parts old → StopsInEnd (after run parts) old new → StopsPlanning run lines new (plans_made run parts)
-end_planning run lines parts old new f s = record {
+pub end_planning : (run : Event) (lines : List Line) (parts : List Part) (old new : List Event) (surplus : Surplus) → FollowsSoFar run lines parts old → StopsInEnd (after run parts) old new
+    → StopsPlanning run lines new surplus (plans_made run parts)
+end_planning run lines parts old new surplus f s = record {
   short = record {
     parts = parts;
     more = s.events;
@@ -219,17 +230,17 @@ end_planning run lines parts old new f s = record {
     stops = inr (record { is_of = f.is_of; steps = s.steps; in_turn = s.in_turn });
   };
   last = [];
-  which = inl refl;
+  which = inl (f.is_of, refl);
   all = refl;
 }
 
 pub end_stops_short : (run : Event) (lines : List Line) (parts : List Part) (old new : List Event) → FollowsSoFar run lines parts old → StopsInEnd (after run parts) old new → StopsShort run lines new
-end_stops_short run lines parts old new f s = (end_planning run lines parts old new f s).short
+end_stops_short run lines parts old new f s = (end_planning run lines parts old new NoSurplus f s).short
 
 -- A history that follows all lines and the end has whole steps, and the faults of its lines were planned.
-pub all_planning : (run : Event) (lines : List Line) (past : List Event) → (a : FollowsAll run lines past) → StopsPlanning run lines past (plans_made run a.played.parts)
+pub all_planning : (run : Event) (lines : List Line) (past : List Event) → (a : FollowsAll run lines past) → StopsPlanning run lines past NoSurplus (plans_made run a.played.parts)
 all_planning run lines past a =
-    subst (λ first. StopsPlanning first lines past (plans_made first a.played.parts)) a.begins
+    subst (λ first. StopsPlanning first lines past NoSurplus (plans_made first a.played.parts)) a.begins
     (record {
       short = record {
         parts = a.played.parts;
@@ -239,7 +250,7 @@ all_planning run lines past a =
         stops = inr (record { is_of = a.is_of; steps = a.follows.end.steps; in_turn = a.follows.end.in_turn });
       };
       last = [];
-      which = inl refl;
+      which = inl (a.is_of, refl);
       all = refl;
     })
 

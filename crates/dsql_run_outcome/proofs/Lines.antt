@@ -187,7 +187,7 @@ stops_telling run lines parts line old new lent now slots f tells stops asked =
     let before : List Made = plans_made run parts in
     record {
       made = asked.planned ++ before;
-      stops = line_stops_planning run lines parts line old new asked.planned f stops asked.which;
+      stops = line_stops_planning run lines parts line old new asked.surplus asked.planned f stops asked.which;
       surplus = asked.surplus;
       may = asked.may;
       tells = subst (λ (made : List Made). TellsOf (later lent now slots) made (with_answer asked.surplus new)) (append_assoc wants asked.planned before)

@@ -8,7 +8,7 @@ use Rattle.dsql_follows.specs.declared.line.Line.{Line}
 use Rattle.dsql_follows.specs.Sentences.{Part}
 use Rattle.dsql_follows.specs.Follows.{told}
 use Rattle.dsql_run_wires.specs.Made.{Made}
-use Rattle.dsql_run_wires.specs.Stopped.{GotAllBack, MayCome, Surplus, wants_of, with_answer}
+use Rattle.dsql_run_wires.specs.Stopped.{GotAllBack, MayCome, NoSurplus, Surplus, wants_of, with_answer}
 use Rattle.dsql_run_wires.specs.Told.{TellsJust}
 use Rattle.dsql_run_wires.specs.WiresFit.{WiresFit}
 use Rattle.dsql_run_player.specs.Planned.{plans_of, plans_made}
@@ -39,12 +39,26 @@ pub record IsPlanOfLast (run : Event) (lines : List Line) (parts : List Part) (p
   pub is_of : reverse lines ≡ line ∷ lines_of parts
   pub are : plans ≡ plans_of line (told run parts)
 
--- Holds if a run had to stop, and these faults were planned: those of the lines before, and perhaps that of the
--- last line.
-pub record StopsPlanning (run : Event) (lines : List Line) (past : List Event) (made : List Made) : Type 0 where
+-- Holds if nothing came of the last line, or of the script's end: no event, no plan, and no call beside them.
+pub record NothingCame (events : List Event) (plans : List Made) (surplus : Surplus) : Type 0 where
+  pub no_event : events ≡ []
+  pub no_plan : plans ≡ []
+  pub no_call : surplus ≡ NoSurplus
+
+-- Says what the line in which a run stopped has planned. Either these parts are those of all lines, or the last line
+-- planned all that it plans, or nothing came of it.
+abbrev pub LastPlans : Event → List Line → List Part → List Event → Surplus → List Made → Type 0
+LastPlans run lines parts events surplus plans =
+    ((lines_of parts ≡ reverse lines) × (plans ≡ []))
+    ⊎ (IsPlanOfLast run lines parts plans ⊎ NothingCame events plans surplus)
+
+-- Holds if a run had to stop, and these faults were planned: those of the lines before and of the last line. If nothing
+-- came of the last line, its fault wasn't planned.
+pub record StopsPlanning (run : Event) (lines : List Line) (past : List Event) (surplus : Surplus)
+    (made : List Made) : Type 0 where
   pub short : StopsShort run lines past
   pub last : List Made
-  pub which : (last ≡ []) ⊎ IsPlanOfLast run lines short.parts last
+  pub which : LastPlans run lines short.parts short.more surplus last
   pub all : made ≡ last ++ plans_made run short.parts
 
 -- Holds if a run had to stop in its lines. The fleet and the wires record exactly the run up to then and these faults,
@@ -53,8 +67,8 @@ pub record StopsPlanning (run : Event) (lines : List Line) (past : List Event) (
 pub record StopsTelling {W : Type 0} (run : Event) (lines : List Line) (past : List Event)
     (lent : Lent W) : Type 0 where
   pub made : List Made
-  pub stops : StopsPlanning run lines past made
   pub surplus : Surplus
+  pub stops : StopsPlanning run lines past surplus made
   pub may : MayCome past surplus
   pub tells : TellsOf lent (wants_of surplus ++ made) (with_answer surplus past)
   pub wires : WiresFit lent.heard (is_some lent.now) (with_answer surplus past) lent.slots
@@ -65,7 +79,7 @@ pub record StopsTelling {W : Type 0} (run : Event) (lines : List Line) (past : L
 pub record StopsAsking (run : Event) (lines : List Line) (past : List Event)
     (before after : Option FleetTold) : Type 0 where
   pub made : List Made
-  pub stops : StopsPlanning run lines past made
   pub surplus : Surplus
+  pub stops : StopsPlanning run lines past surplus made
   pub may : MayCome past surplus
   pub records : GotAllBack (wants_of surplus ++ made) before after (with_answer surplus past)

@@ -21,6 +21,7 @@ ghost use Rattle.dsql_run_player.specs.Carried.{Carries, StopsInEnd, StopsInLine
 ghost use Rattle.dsql_run_player.specs.Planned.{plans_made, plans_of};
 ghost use Rattle.dsql_run_player.specs.Playing.{Playing};
 ghost use Rattle.dsql_run_outcome.specs.Followed.{FollowsAll, FollowsSoFar, StopsShort};
+ghost use Rattle.dsql_run_wires.specs.Stopped.{PlansAllOrNothing, Surplus};
 ghost use Rattle.dsql_run_outcome.specs.Lent.{StopsPlanning};
 ghost use Rattle.dsql_run_outcome.specs.Headline.{PlaysAndTells, PlaysWhole, Seen, SeenNotes};
 ghost use Rattle.dsql_run_outcome.specs.Notes.{note_of, is_status, Tells};
@@ -58,7 +59,7 @@ pub fn a_status_tells_what_was_done()
 
 /// A history that follows the lines so far also follows one more line that is carried out. If the run stops in
 /// a line, between two lines or in the script's end, what came is whole steps. The same holds of a whole run.
-/// If the run stops in a line, the fault of that line was planned or it wasn't.
+/// If the run stops in a line, the fault of that line was planned, unless nothing came of the line.
 pub fn lines_follow_one_after_another()
     ensures line { (run : Event) (lines : List Line) (parts : List Part) (line : Line) (old new : Playing)
         → FollowsSoFar run lines parts old.past → (c : Carries (after run parts) line old new)
@@ -73,9 +74,9 @@ pub fn lines_follow_one_after_another()
     ensures all { (run : Event) (lines : List Line) (past : List Event) → FollowsAll run lines past
         → StopsShort run lines past }
     ensures plans { (run : Event) (lines : List Line) (parts : List Part) (line : Line) (old new : List Event)
-        (planned : List Made) → FollowsSoFar run lines parts old → StopsInLine (after run parts) line old new
-        → (planned ≡ plans_of line old) ⊎ (planned ≡ [])
-        → StopsPlanning run (lines ++ line ∷ []) new (planned ++ plans_made run parts) }
+        (surplus : Surplus) (planned : List Made) → FollowsSoFar run lines parts old
+        → StopsInLine (after run parts) line old new → PlansAllOrNothing (plans_of line old) surplus planned old new
+        → StopsPlanning run (lines ++ line ∷ []) new surplus (planned ++ plans_made run parts) }
 {}
 
 /// Whatever stopped a run, its script says first what the run has of it. This stays true however the run is

@@ -30,7 +30,7 @@ use Rattle.dsql_engine_laws.proofs.Leave.{leave_opens_none, leave_shuts_none, le
 use Rattle.dsql_engine_laws.specs.wire.Journaled.{Journaled}
 use Rattle.dsql_run_wires.specs.Asked.{LacksMemory, Performs}
 use Rattle.dsql_run_wires.specs.Made.{Made}
-use Rattle.dsql_run_wires.specs.Stopped.{HearsAtMost, TakesAnyAnswer}
+use Rattle.dsql_run_wires.specs.Stopped.{HasRoom, HearsAtMost, MayCome, WantedMemory}
 use Rattle.dsql_run_wires.specs.Told.{fleet_told}
 use Rattle.dsql_run_wires.specs.WiresFit.{KeepsFit, KeepsPlans, WiresFit, slot}
 use Rattle.dsql_run_wires.proofs.Asking.{wire_fits}
@@ -97,23 +97,23 @@ answer_heard told p client permit e wires core past flights l has fit is there =
     (subst (λ (H : List Event). fits_at_its_place (journal H e.conn) e ≡ true) (sym past) (wire_fits told false p.past permit e wires fit is there))
 
 -- The call is due: whatever its answer is, it may come next by every rule.
-call_takes_any_answer : (p : Playing) (client : ℕ) (permit : Permit) → IsReady p → HasLeave p client permit → TakesAnyAnswer p.past permit
-call_takes_any_answer p client permit ready has answer fits = allowed_welcome p.past (answered permit answer) ready.legal (leave_welcomes p.past permit answer ready.legal.lawful has.leave fits)
+call_may_want : (p : Playing) (client : ℕ) (permit : Permit) → IsReady p → HasRoom p.past → HasLeave p client permit → MayCome p.past (WantedMemory permit)
+call_may_want p client permit ready room has = (room, λ answer fits. allowed_welcome p.past (answered permit answer) ready.legal (leave_welcomes p.past permit answer ready.legal.lawful has.leave fits))
 
 -- If memory was wanting for the call, the wires have at most that want more.
-pub call_lacks : {W : Type 0} (told : W → Option WireTold) (p : Playing) (client : ℕ) (permit : Permit) (wires now : List (Option (Journaled W))) → IsReady p → HasLeave p client permit → WiresFit told false p.past wires
+pub call_lacks : {W : Type 0} (told : W → Option WireTold) (p : Playing) (client : ℕ) (permit : Permit) (wires now : List (Option (Journaled W))) → IsReady p → HasRoom p.past → HasLeave p client permit → WiresFit told false p.past wires
     → LacksMemory told permit wires now → HearsAtMost told p.past p.past wires now
-call_lacks told p client permit wires now ready has fit lacks =
-    call_lacking told false permit p.past wires now fit lacks (leave_opens_none p.past permit ready.legal.lawful has.leave) (call_takes_any_answer p client permit ready has)
+call_lacks told p client permit wires now ready room has fit lacks =
+    call_lacking told false permit p.past wires now fit lacks (leave_opens_none p.past permit ready.legal.lawful has.leave) (call_may_want p client permit ready room has)
 
 -- If the answer isn't taken in, the wires hear at most that answer more.
-pub call_untaken : {W : Type 0} (told : W → Option WireTold) (p : Playing) (client : ℕ) (permit : Permit) (e : Entry) (wires now : List (Option (Journaled W))) → IsReady p → HasLeave p client permit → WiresFit told false p.past wires
+pub call_untaken : {W : Type 0} (told : W → Option WireTold) (p : Playing) (client : ℕ) (permit : Permit) (e : Entry) (wires now : List (Option (Journaled W))) → IsReady p → HasRoom p.past → HasLeave p client permit → WiresFit told false p.past wires
     → Performs told permit e wires now → IsSomeAnd (slot wires permit.conn) (λ w. fits_at_its_place w.journal e ≡ true) → HearsAtMost told p.past p.past wires now
-call_untaken told p client permit e wires now ready has fit performs there =
+call_untaken told p client permit e wires now ready room has fit performs there =
     let l : Lawful p.past = ready.legal.lawful in
     let core : Core = record { past = p.past; trimmed = p.trimmed; flights = p.flights; chore = p.chore } in
     answer_untaken told permit e p.past wires now performs (leave_opens_none p.past permit l has.leave) (leave_shuts_none p.past permit l has.leave)
-    (allowed_welcome p.past e ready.legal (answer_heard told p client permit e wires core refl refl l has fit performs.entry there).welcome)
+    (room, allowed_welcome p.past e ready.legal (answer_heard told p client permit e wires core refl refl l has fit performs.entry there).welcome)
 
 -- Holds if the client's call made the driver call for which it had a permit, and the answer was heard.
 pub record Asks {W : Type 0} (told : W → Option WireTold) (permit : Permit) (e : Entry) (next : Next) (client : ℕ) (before after : Playing) (wires now : List (Option (Journaled W))) : Type 0 where

@@ -20,7 +20,8 @@ use Rattle.dsql_run_player.specs.Stepping.{IsEnd, RunsOut, TakesStep, goes}
 use Rattle.dsql_run_player.proofs.Emptied.{emptied}
 use Rattle.dsql_run_player.proofs.Ending.{is_quiet_then}
 use Rattle.dsql_run_player.proofs.Hearing.{hears_none}
-use Rattle.dsql_run_player.proofs.Keeping.{run_after, run_stays, run_then}
+use Rattle.dsql_run_player.proofs.Fitting.{stops_unheard}
+use Rattle.dsql_run_player.proofs.Keeping.{run_after, run_stops_on, run_then}
 use Rattle.dsql_run_player.proofs.LastPart.{all_over, end_begun, end_done, end_ended, end_on}
 use Rattle.dsql_run_player.specs.Keeping.{SameCourse}
 
@@ -75,4 +76,4 @@ pub run_halts : {A F W : Type 0} (fleet : Ghosts F W) (heard : W → Option Wire
     → HearsNothing far.past over.past → Legal over.past → KeepsRun {A = A} fleet heard (Err halt) before between old over slots halfway
 run_halts fleet heard halt before between old begun far over slots halfway same told able fit silent legal =
     run_through fleet heard (Err halt) before between between old begun far far over slots halfway halfway same told able (hears_none far.past far.past refl)
-    (run_stays [] fleet heard (Err halt) between far over halfway refl fit silent legal)
+    (run_stops_on fleet heard (Err halt) between far over halfway halfway refl fit (stops_unheard heard far.past over.past halfway silent) legal)

@@ -9,7 +9,7 @@ use Rattle.dsql_engine_laws.specs.journal.Permits.{entry_of}
 use Rattle.dsql_engine_laws.specs.history.declared.event.Event.{Event}
 use Rattle.dsql_engine_laws.specs.history.declared.event.Event.TheVariants.{Heard}
 use Rattle.dsql_engine_laws.specs.history.declared.record.Flight.{Flight}
-use Rattle.dsql_engine_laws.specs.history.Legal.{Allowed, Lawful}
+use Rattle.dsql_engine_laws.specs.history.Legal.{Lawful}
 use Rattle.dsql_engine_laws.specs.history.Readers.Course.{has_ended}
 use Rattle.dsql_engine_laws.specs.history.Readers.Journals.{journal}
 use Rattle.dsql_engine_laws.specs.history.Rules.Flights.{is_in_flight, permitted, without_flight}
@@ -29,7 +29,7 @@ use Rattle.dsql_engine.specs.Hearing.{MayBeHeard, is_on, is_under_way}
 use Rattle.dsql_engine_laws.proofs.laws_ends.Steps.{step_ended}
 use Rattle.dsql_engine_laws.specs.follows.Moments.{Moment, landed}
 use Rattle.dsql_run_wires.specs.Seats.{Seat, seat}
-use Rattle.dsql_run_wires.specs.Stopped.{TakesAnyAnswer}
+use Rattle.dsql_run_wires.specs.Stopped.{MayCome, Untaken, WantedMemory}
 use Rattle.dsql_engine_laws.specs.laws_steps.Steps.{MakesStep, RestsAlone}
 use Rattle.dsql_engine_laws.proofs.laws_steps.Groups.{heard_is_one}
 use Rattle.dsql_engine_laws.specs.laws_steps.Groups.{after_heard}
@@ -84,14 +84,14 @@ answer_welcome p e core past chore it = record { flight = flight; welcome = subs
     welcome = made.welcome e.answer fits
 
 -- The layer's own call is due: whatever its answer is, it may come next by every rule.
-pub chore_takes_any_answer : (p : Playing) (permit : Permit) → IsToMake p permit → TakesAnyAnswer p.past permit
-chore_takes_any_answer p permit it answer fits = allowed_welcome p.past (answered permit answer) it.ready.legal ((made_so p permit it).welcome answer fits)
+pub chore_may_want : (p : Playing) (permit : Permit) → IsToMake p permit → MayCome p.past (WantedMemory permit)
+chore_may_want p permit it = (it.room, λ answer fits. allowed_welcome p.past (answered permit answer) it.ready.legal ((made_so p permit it).welcome answer fits))
 
 -- The answer may come next by every rule, whether or not it is taken in.
-pub answer_allowed : (p : Playing) (e : Entry) → IsAnswered p e → Allowed p.past (Heard e)
-answer_allowed p e it =
+pub answer_may_come : (p : Playing) (e : Entry) → IsAnswered p e → MayCome p.past (Untaken e)
+answer_may_come p e it =
     let core : Core = record { past = p.past; trimmed = p.trimmed; flights = p.flights; chore = p.chore } in
-    allowed_welcome p.past e it.to_make.ready.legal (answer_welcome p e core refl refl it).welcome
+    (it.to_make.room, allowed_welcome p.past e it.to_make.ready.legal (answer_welcome p e core refl refl it).welcome)
 
 without_none : (n : ℕ) (flights : List Flight) → is_in_flight n flights ≡ false → without_flight n flights ≡ flights
 without_none n [] h = refl

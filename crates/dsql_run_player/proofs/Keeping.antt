@@ -13,15 +13,16 @@ use Rattle.dsql_engine_laws.specs.wire.Calling.{WantsConnect}
 use Rattle.dsql_engine_laws.specs.wire.Journaled.{Journaled}
 use Rattle.dsql_run_wires.specs.Asked.{LacksMemory}
 use Rattle.dsql_run_wires.specs.Made.{Made}
-use Rattle.dsql_run_wires.specs.Stopped.{HearsAtMost, RecordsAtMost, TakesAnyAnswer}
+use Rattle.dsql_run_wires.specs.Stopped.{HearsAtMost, MayCome, RecordsAtMost, WantedMemory}
 use Rattle.dsql_run_wires.specs.Told.{FleetTells, SameAbility, fleet_told}
 use Rattle.dsql_run_wires.specs.WiresFit.{KeepsFit, KeepsPlans, SameWires, WiresFit, slot}
-use Rattle.dsql_run_wires.proofs.Stopped.{call_lacking, connect_lacking, fleet_unasked, nothing_untaken, stops_after}
+use Rattle.dsql_run_wires.proofs.Stopped.{call_lacking, connect_lacking, fleet_unasked, nothing_came, stops_after}
+use Rattle.dsql_run_wires.proofs.Staying.{none_changed}
 use Rattle.dsql_run_wires.proofs.Telling.{tells_none, tells_then}
 use Rattle.dsql_run_player.specs.declared.halt.Halt.{Halt}
 use Rattle.dsql_run_player.specs.Carried.{HearsNothing, KeepsRun, KeepsRunPlanning, KeepsWires}
 use Rattle.dsql_run_player.specs.Playing.{Playing, IsReady}
-use Rattle.dsql_run_player.proofs.Fitting.{plans_unheard, stops_unheard}
+use Rattle.dsql_run_player.proofs.Fitting.{plans_unheard}
 
 pub able_same : {F W : Type 0} (fleet : Ghosts F W) (now : F) → SameAbility fleet now now
 able_same fleet now = record { ability = refl; preferred = refl }
@@ -64,38 +65,39 @@ run_stops_there plans fleet heard result before after old new slots now err same
     run_stops plans fleet heard result before after old new slots now err (subst (λ (H : List Event). RecordsAtMost heard plans (fleet.told before) (fleet.told after) old.past H slots now) (sym same) told) able legal
 
 -- A part that has to stop and asks the fleet for nothing keeps the run if the wires have at most one answer or want.
-pub run_stops_on : {A F W : Type 0} (plans : List Made) (fleet : Ghosts F W) (heard : W → Option WireTold) (result : Result A Halt) (at : F) (old new : Playing) (slots now : List (Option (Journaled W)))
-    → IsErr result → WiresFit heard (is_some (fleet.told at)) old.past slots → HearsAtMost heard old.past new.past slots now → Legal new.past → KeepsRunPlanning plans fleet heard result at at old new slots now
-run_stops_on plans fleet heard result at old new slots now err fit hears legal =
-    run_stops plans fleet heard result at at old new slots now err (fleet_unasked heard plans (fleet.told at) old.past new.past slots now fit hears) (able_same fleet at) legal
+pub run_stops_on : {A F W : Type 0} (fleet : Ghosts F W) (heard : W → Option WireTold) (result : Result A Halt) (at : F) (old new : Playing) (slots now : List (Option (Journaled W)))
+    → IsErr result → WiresFit heard (is_some (fleet.told at)) old.past slots → HearsAtMost heard old.past new.past slots now → Legal new.past → KeepsRun fleet heard result at at old new slots now
+run_stops_on fleet heard result at old new slots now err fit hears legal =
+    run_stops [] fleet heard result at at old new slots now err (fleet_unasked heard (fleet.told at) old.past new.past slots now fit hears) (able_same fleet at) legal
 
--- A part that has to stop before anything was heard keeps the run.
-pub run_stays : {A F W : Type 0} (plans : List Made) (fleet : Ghosts F W) (heard : W → Option WireTold) (result : Result A Halt) (at : F) (old new : Playing) (slots : List (Option (Journaled W)))
-    → IsErr result → WiresFit heard (is_some (fleet.told at)) old.past slots → HearsNothing old.past new.past → Legal new.past → KeepsRunPlanning plans fleet heard result at at old new slots slots
-run_stays plans fleet heard result at old new slots err fit same legal =
-    run_stops_on plans fleet heard result at old new slots slots err fit (stops_unheard heard old.past new.past slots same) legal
-
--- So does a part in which all wires stayed as they were, and the fleet records what it recorded.
-pub run_unasked : {A F W : Type 0} (plans : List Made) (fleet : Ghosts F W) (heard : W → Option WireTold) (result : Result A Halt) (before after : F) (p : Playing) (slots now : List (Option (Journaled W)))
-    → IsErr result → WiresFit heard (is_some (fleet.told before)) p.past slots → fleet.told after ≡ fleet.told before → SameWires heard slots now → SameAbility fleet before after → Legal p.past
-    → KeepsRunPlanning plans fleet heard result before after p p slots now
-run_unasked plans fleet heard result before after p slots now err fit same wires able legal =
-    run_stops plans fleet heard result before after p p slots now err
-    (subst (λ (told : Option FleetTold). RecordsAtMost heard plans (fleet.told before) told p.past p.past slots now) (sym same)
-    (fleet_unasked heard plans (fleet.told before) p.past p.past slots now fit (nothing_untaken heard p.past slots now wires)))
+-- A part that has to stop before anything was done keeps the run. All wires are as they were, and the fleet records what
+-- it recorded.
+pub run_unasked : {A F W : Type 0} (plans : List Made) (fleet : Ghosts F W) (heard : W → Option WireTold) (result : Result A Halt) (before after : F) (old new : Playing) (slots now : List (Option (Journaled W)))
+    → IsErr result → WiresFit heard (is_some (fleet.told before)) old.past slots → new.past ≡ old.past → fleet.told after ≡ fleet.told before → SameWires heard slots now → SameAbility fleet before after → Legal new.past
+    → KeepsRunPlanning plans fleet heard result before after old new slots now
+run_unasked plans fleet heard result before after old new slots now err fit still same wires able legal =
+    run_stops_there plans fleet heard result before after old new slots now err still
+    (subst (λ (told : Option FleetTold). RecordsAtMost heard plans (fleet.told before) told old.past old.past slots now) (sym same)
+    (nothing_came heard plans (fleet.told before) old.past slots now fit wires))
     able legal
+
+-- So does a part with the same wires and the same fleet.
+pub run_stays : {A F W : Type 0} (plans : List Made) (fleet : Ghosts F W) (heard : W → Option WireTold) (result : Result A Halt) (at : F) (old new : Playing) (slots : List (Option (Journaled W)))
+    → IsErr result → WiresFit heard (is_some (fleet.told at)) old.past slots → new.past ≡ old.past → Legal new.past → KeepsRunPlanning plans fleet heard result at at old new slots slots
+run_stays plans fleet heard result at old new slots err fit still legal =
+    run_unasked plans fleet heard result at at old new slots slots err fit still refl (none_changed heard slots slots (λ c. refl)) (able_same fleet at) legal
 
 -- So does a part in which memory was wanting for a call on a wire.
 pub run_lacks : {A F W : Type 0} (fleet : Ghosts F W) (heard : W → Option WireTold) (result : Result A Halt) (at : F) (permit : Permit) (p : Playing) (slots now : List (Option (Journaled W)))
-    → IsErr result → WiresFit heard (is_some (fleet.told at)) p.past slots → LacksMemory heard permit slots now → is_connect permit.call ≡ false → TakesAnyAnswer p.past permit → Legal p.past
+    → IsErr result → WiresFit heard (is_some (fleet.told at)) p.past slots → LacksMemory heard permit slots now → is_connect permit.call ≡ false → MayCome p.past (WantedMemory permit) → Legal p.past
     → KeepsRun fleet heard result at at p p slots now
 run_lacks fleet heard result at permit p slots now err fit lacks opens due legal =
-    run_stops_on [] fleet heard result at p p slots now err fit (call_lacking heard (is_some (fleet.told at)) permit p.past slots now fit lacks opens due) legal
+    run_stops_on fleet heard result at p p slots now err fit (call_lacking heard (is_some (fleet.told at)) permit p.past slots now fit lacks opens due) legal
 
 -- So does a part in which memory was wanting for a Connect.
 pub run_unconnected : {A F W : Type 0} (fleet : Ghosts F W) (heard : W → Option WireTold) (result : Result A Halt) (before after : F) (permit : Permit) (p : Playing) (slots now : List (Option (Journaled W)))
     → IsErr result → WiresFit heard (is_some (fleet.told before)) p.past slots → ((c : ℕ) → slot now c ≡ slot slots c) → WantsConnect permit.conn (fleet.told before) (fleet.told after)
-    → is_connect permit.call ≡ true → TakesAnyAnswer p.past permit → SameAbility fleet before after → Legal p.past → KeepsRun fleet heard result before after p p slots now
+    → is_connect permit.call ≡ true → MayCome p.past (WantedMemory permit) → SameAbility fleet before after → Legal p.past → KeepsRun fleet heard result before after p p slots now
 run_unconnected fleet heard result before after permit p slots now err fit same wants opens due able legal =
     run_stops [] fleet heard result before after p p slots now err
     (connect_lacking heard permit p.past slots now (fleet.told before) (fleet.told after) fit same wants opens due)
@@ -118,4 +120,4 @@ run_goes fleet heard x at old new before after fit ready keeps plans same legal 
 pub run_of_wires : {A F W : Type 0} (fleet : Ghosts F W) (heard : W → Option WireTold) (result : Result A Halt) (at : F) (old new : Playing) (before after : List (Option (Journaled W)))
     → WiresFit heard (is_some (fleet.told at)) old.past before → KeepsWires heard result old new before after → KeepsRun fleet heard result at at old new before after
 run_of_wires fleet heard (Ok x) at old new before after fit k = run_goes fleet heard x at old new before after fit k.ready k.wires k.plans k.told k.legal
-run_of_wires fleet heard (Err e) at old new before after fit k = run_stops_on [] fleet heard (Err e) at old new before after refl fit k.stops k.legal
+run_of_wires fleet heard (Err e) at old new before after fit k = run_stops_on fleet heard (Err e) at old new before after refl fit k.stops k.legal

@@ -27,7 +27,7 @@ use Rattle.dsql_run_player.specs.Chores.{IsAnswered, IsToMake}
 use Rattle.dsql_run_player.specs.Playing.{Playing}
 use Rattle.dsql_run_player.proofs.Grouped.{Grouped}
 use Rattle.dsql_run_player.proofs.Hearing.{all_quiet, answer_grown}
-use Rattle.dsql_run_player.proofs.Housekeeping.{answer_allowed, made_so}
+use Rattle.dsql_run_player.proofs.Housekeeping.{answer_may_come, made_so}
 use Rattle.dsql_run_player.proofs.Keeping.{run_stops_there}
 use Rattle.dsql_run_player.proofs.Taken.{taken_group, taken_ready}
 
@@ -80,5 +80,5 @@ opened_run fleet heard (Err halt) before after permit e p now old new it opens f
     let connects : Connects heard (is_some (fleet.told before)) permit e old new = record { entry = asks.answers.entry; others = asks.others; wire = asks.wire; unplanned = asks.unplanned } in
     run_stops_there [] fleet heard (Err halt) before after p now old new refl same
     (subst (λ (told : Option FleetTold). RecordsAtMost heard [] (fleet.told before) told p.past p.past old new) (sym asks.told)
-    (connect_untaken heard permit e p.past old new (fleet.told before) connects asks.answers.no_want opens nothing (answer_allowed p e answered) fit))
+    (connect_untaken heard permit e p.past old new (fleet.told before) connects asks.answers.no_want opens nothing (answer_may_come p e answered) fit))
     asks.able legal

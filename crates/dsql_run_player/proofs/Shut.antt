@@ -23,7 +23,7 @@ use Rattle.dsql_run_player.specs.Carried.{KeepsRun}
 use Rattle.dsql_run_player.specs.Playing.{Playing}
 use Rattle.dsql_run_player.proofs.Grouped.{Grouped}
 use Rattle.dsql_run_player.proofs.Hearing.{all_quiet, answer_grown}
-use Rattle.dsql_run_player.proofs.Housekeeping.{answer_allowed}
+use Rattle.dsql_run_player.proofs.Housekeeping.{answer_may_come}
 use Rattle.dsql_run_player.proofs.Keeping.{run_stops_there}
 use Rattle.dsql_run_player.proofs.Taken.{taken_group, taken_ready}
 use Rattle.dsql_run_player.proofs.Tidied.{AsksWire}
@@ -62,5 +62,5 @@ shut_run fleet heard (Ok x) before after permit e p now old mid new shuts fit as
 shut_run fleet heard (Err halt) before after permit e p now old mid new shuts fit asks gone takes same legal =
     run_stops_there [] fleet heard (Err halt) before after p now old new refl same
     (subst (λ (told : Option FleetTold). RecordsAtMost heard [] (fleet.told before) told p.past p.past old new) (sym gone.told)
-    (shut_untaken heard permit e p.past old mid new (fleet.told before) asks.performs shuts gone.slots gone.exact (answer_allowed p e asks.answered) fit))
+    (shut_untaken heard permit e p.past old mid new (fleet.told before) asks.performs shuts gone.slots gone.exact (answer_may_come p e asks.answered) fit))
     gone.able legal

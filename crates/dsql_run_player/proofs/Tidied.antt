@@ -24,7 +24,7 @@ use Rattle.dsql_run_player.specs.Chores.{IsAnswered, IsToMake}
 use Rattle.dsql_run_player.specs.Playing.{Playing}
 use Rattle.dsql_run_player.proofs.Grouped.{Grouped}
 use Rattle.dsql_run_player.proofs.Hearing.{answer_fits, answer_plans, answer_told}
-use Rattle.dsql_run_player.proofs.Housekeeping.{answer_allowed}
+use Rattle.dsql_run_player.proofs.Housekeeping.{answer_may_come}
 use Rattle.dsql_run_player.proofs.Keeping.{able_same, run_goes, run_stops_there}
 use Rattle.dsql_run_player.proofs.Taken.{taken_group, taken_ready}
 
@@ -61,5 +61,5 @@ tidied_run fleet heard (Ok x) at permit e p after wires now opens shuts fit asks
     (answer_told permit e p.past after.past 0 g asks.performs.entry opens shuts) legal
 tidied_run fleet heard (Err halt) at permit e p after wires now opens shuts fit asks takes same legal =
     run_stops_there [] fleet heard (Err halt) at at p after wires now refl same
-    (fleet_unasked heard [] (fleet.told at) p.past p.past wires now fit (answer_untaken heard permit e p.past wires now asks.performs opens shuts (answer_allowed p e asks.answered)))
+    (fleet_unasked heard (fleet.told at) p.past p.past wires now fit (answer_untaken heard permit e p.past wires now asks.performs opens shuts (answer_may_come p e asks.answered)))
     (able_same fleet at) legal

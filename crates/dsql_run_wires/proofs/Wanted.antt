@@ -39,11 +39,12 @@ still_fits heard telling c call entries (Some b) None w fit = absurd w
 still_fits heard telling c call entries (Some b) (Some a) w fit =
     fits_at_still heard telling c entries b a (record { conn = w.conn; journal = w.journal; telling = ap is_some w.told ∙ still_some (with_wanted call) (heard b.wire) }) fit
 
--- A wire on which a call failed for want of memory answered the call Memory, or it is as it was.
+-- If a call failed for want of memory, its wire answered it Memory. Otherwise the wire's judge had no room, and the wire
+-- is as it was.
 pub wire_lacks : {W : Type 0} (heard : W → Option WireTold) (call : DriverCall) (before after : Journaled W) → after.conn ≡ before.conn → after.journal ≡ before.journal
-    → WantsMemory call before.spare (heard before.wire) (heard after.wire) → SameHeard heard before after ⊎ Wants heard call before after
+    → WantsMemory call before.spare (heard before.wire) (heard after.wire) → ((before.spare ≡ 0) × SameHeard heard before after) ⊎ Wants heard call before after
 wire_lacks heard call before after conn journal (inl told) = inr (record { conn = conn; journal = journal; told = told })
-wire_lacks heard call before after conn journal (inr full) = inl (record { conn = conn; journal = journal; told = full.1 })
+wire_lacks heard call before after conn journal (inr full) = inl (full.0, record { conn = conn; journal = journal; told = full.1 })
 
 -- If the wire that answered the call Memory goes back into its slot, no other slot changed.
 pub one_wanted : {W : Type 0} (heard : W → Option WireTold) (p : Permit) (ws : List (Option (Journaled W))) (before after : Journaled W) → slot ws p.conn ≡ Some before → Wants heard p.call before after

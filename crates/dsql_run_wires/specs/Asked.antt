@@ -1,5 +1,5 @@
 -- A driver call and its answer, as the wires see it.
-use Rattle.std.specs.Prelude.{ℕ, ◌≡◌, ◌≢◌, ◌⊎◌, Bool, true, false, List, Option, Some, None}
+use Rattle.std.specs.Prelude.{ℕ, ◌≡◌, ◌≢◌, ◌⊎◌, Bool, true, false, List, Option, Some, None, IfSome}
 use Rattle.dsql_history.specs.driver.Fits.{is_memory}
 use Rattle.dsql_history.specs.driver.Wires.{WireTold, FleetTold, Plan, plans_after}
 use Rattle.dsql_history.specs.journal.declared.entry.Entry.{Entry}
@@ -29,11 +29,16 @@ pub record WantsCall {W : Type 0} (heard : W
   pub others : (c : ℕ) → c ≢ permit.conn → slot after c ≡ slot before c
   pub wanted : WantsIn heard permit.call (slot before permit.conn) (slot after permit.conn)
 
--- Holds if memory was wanting for the permit's call. The driver answered it Memory, or it wasn't asked and all wires
--- are as they were.
+-- Holds if the wire's judge has no room for one more entry.
+abbrev pub LacksRoom : {W : Type 0} → Option (Journaled W) → Type 0
+LacksRoom wire = IfSome wire (λ w. w.spare ≡ 0)
+
+-- Holds if memory was wanting for the permit's call. Either the driver answered it Memory, or its wire's judge had no
+-- room for the answer. The driver wasn't asked then, and all wires are as they were.
 abbrev pub LacksMemory : {W : Type 0} → (W → Option WireTold) → Permit → List (Option (Journaled W))
     → List (Option (Journaled W)) → Type 0
-LacksMemory heard permit before after = SameWires heard before after ⊎ WantsCall heard permit before after
+LacksMemory heard permit before after =
+    (LacksRoom (slot before permit.conn) × SameWires heard before after) ⊎ WantsCall heard permit before after
 
 -- Holds if the wire that the permit's Connect opened, unless it was refused, is in its slot with no plan and no want.
 -- No other slot changed.

@@ -1,7 +1,7 @@
 -- What wires and a fleet record if an act has to stop. They record the run's history, with at most one of two things
 -- more. One is an answer that may come next by every rule, but couldn't be taken in. The other is the want of a call
--- that was due.
-use Rattle.std.specs.Prelude.{ℕ, ◌≡◌, ◌≤◌, ◌⊎◌, true, false, cond, zero, suc, List, [], ◌∷◌, ◌++◌, Option, is_some, IfSome, option_map}
+-- that was due. A run that is full has neither.
+use Rattle.std.specs.Prelude.{ℕ, ◌≡◌, ◌<◌, ◌≤◌, ◌⊎◌, true, false, cond, zero, suc, List, [], ◌∷◌, ◌++◌, length, Option, is_some, IfSome, option_map}
 use Rattle.dsql_history.specs.driver.Kinds.{is_connect}
 use Rattle.dsql_history.specs.driver.Wires.{WireTold, FleetTold, RetiredWire, with_retired}
 use Rattle.dsql_history.specs.driver.declared.answer.DriverAnswer.{DriverAnswer}
@@ -10,6 +10,7 @@ use Rattle.dsql_history.specs.journal.declared.entry.Entry.{Entry}
 use Rattle.dsql_history.specs.journal.declared.entry.Permit.{Permit}
 use Rattle.dsql_history.specs.declared.event.Event.{Event}
 use Rattle.dsql_history.specs.declared.event.Event.TheVariants.{Heard}
+use Rattle.dsql_history.specs.declared.limits.TheConstants.{MAX_EVENTS}
 use Rattle.dsql_history.specs.Legal.{Allowed}
 use Rattle.dsql_history.specs.Readers.Journals.{journal}
 use Rattle.dsql_tenure.specs.Judged.{answered}
@@ -46,12 +47,16 @@ TakesAnyAnswer past permit =
     (answer : DriverAnswer) → fits_at_its_place (journal past permit.conn) (answered permit answer) ≡ true
     → Allowed past (Heard (answered permit answer))
 
+-- Holds if the run has room for the events of one more step.
+abbrev pub HasRoom : List Event → Type 0
+HasRoom past = length past < MAX_EVENTS
+
 -- Holds if the answer that wasn't taken in may come next by every rule, or if the call that was answered Memory was
--- due.
+-- due. The run had room for the answer's events, since a run that is full makes no call.
 abbrev pub MayCome : List Event → Surplus → Type 0
 MayCome past NoSurplus = Unit {0}
-MayCome past (Untaken e) = Allowed past (Heard e)
-MayCome past (WantedMemory permit) = TakesAnyAnswer past permit
+MayCome past (Untaken e) = HasRoom past × Allowed past (Heard e)
+MayCome past (WantedMemory permit) = HasRoom past × TakesAnyAnswer past permit
 
 -- Holds of an act that had to stop, in which no connection was opened or shut. Wires that fitted the old history fit
 -- the new one with at most one answer more, or they have at most one want more. The fleet has nothing to record of it,
@@ -65,15 +70,21 @@ pub record HearsAtMost {W : Type 0} (heard : W
       → PlansFit heard (wants_of surplus ++ made) (with_answer surplus new) after
   pub told : (made : List Made) → fleet_told (wants_of surplus ++ made) (with_answer surplus new) ≡ fleet_told made old
 
+-- Says which of the faults that an act was to plan it has planned as it had to stop. It planned all of them, or nothing
+-- came of the act.
+abbrev pub PlansAllOrNothing : List Made → Surplus → List Made → List Event → List Event → Type 0
+PlansAllOrNothing planning surplus planned old new =
+    (planned ≡ planning) ⊎ ((planned ≡ []) × (surplus ≡ NoSurplus) × (new ≡ old))
+
 -- Holds of an act that had to stop. The fleet and the wires record exactly the new history with at most one answer
--- more, or with at most one want more. Of the faults that were to be planned all were, or none.
+-- more, or with at most one want more. All faults that were to be planned were, or nothing came of the act.
 pub record RecordsAtMost {W : Type 0} (heard : W
     → Option WireTold) (planning : List Made) (before after : Option FleetTold) (old new : List Event)
     (slots now : List (Option (Journaled W))) : Type 0 where
   pub surplus : Surplus
   pub may : MayCome new surplus
   pub planned : List Made
-  pub which : (planned ≡ planning) ⊎ (planned ≡ [])
+  pub which : PlansAllOrNothing planning surplus planned old new
   pub tells : FleetTells heard (wants_of surplus ++ planned) before after old (with_answer surplus new) slots now
   pub wires : WiresFit heard (is_some after) (with_answer surplus new) now
 

@@ -129,7 +129,7 @@ impl<W: Wire> Wires<W> {
     }
 
     /// Makes one driver call on the wire of its connection. The wire's journal must let the call be sent. The driver is
-    /// asked once, or not at all if there is no memory before.
+    /// asked once. Only if the wire's judge has no room for the answer, and finds no memory for it, isn't it asked.
     pub fn perform(&mut self, permit: Permit) -> Result<Heard, Memory>
         requires { IsSomeAnd (slot self.old permit.conn) (λ w. MayBeSent w.conn w.journal permit) }
         ensures entry { IfOk result (λ heard. heard ≡ answered permit heard.answer) }
@@ -155,7 +155,8 @@ fn perform_on<W: Wire>(wire: &mut ThinWire<W>, permit: Permit) -> Result<Heard, 
     ensures fits { IfOk result (λ heard. fits_at_its_place wire.old.journal heard ≡ true) }
     ensures no_want { IfOk result (λ heard. is_memory heard.answer ≡ false) }
     ensures noted { IfOk result (λ heard. Hears W.told heard wire.old wire.new) }
-    ensures err { OnErr result (SameHeard W.told wire.old wire.new ⊎ Wants W.told permit.call wire.old wire.new) }
+    ensures err { OnErr result
+        (((wire.old.spare ≡ 0) × SameHeard W.told wire.old wire.new) ⊎ Wants W.told permit.call wire.old wire.new) }
 {
     match wire.perform(permit) {
         Ok(heard) => Ok(heard),

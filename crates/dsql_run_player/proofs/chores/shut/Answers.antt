@@ -7,7 +7,7 @@ use Rattle.dsql_run_wires.specs.WiresFit.{slot}
 use Rattle.dsql_run_wires.proofs.Asking.{wire_heard, wire_sends}
 use Rattle.dsql_run_wires.proofs.Journals.{shut_only}
 use Rattle.dsql_run_player.specs.Acts.{TakesAnswer}
-use Rattle.dsql_run_player.proofs.Housekeeping.{chore_takes_any_answer, made_so}
+use Rattle.dsql_run_player.proofs.Housekeeping.{chore_may_want, made_so}
 use Rattle.dsql_run_player.proofs.Keeping.{run_lacks}
 use Rattle.dsql_run_player.proofs.Shut.{shut_run}
 use Rattle.dsql_run_player.proofs.Taken.{at_err}
@@ -57,4 +57,4 @@ pub returns-in_err-heard-clause-run : goal.returns-in_err-heard-clause-run
 returns-in_err-heard-clause-run g c =
     let q = err_from_is_err_and c.from_residual.result c.from_residual.ensures.1 in
     run_lacks g.F.Fleet g.F.Wire.Wire.told c.from_residual.result c.args.fleet.now c.args.permit c.args.player.now c.args.wires.now c.perform.new.self (at_err c.from_residual.result q.0 q.1) c.requires.wires c.in_err-heard.ensures.err
-    (shut_only c.args.permit.call c.requires.shuts) (chore_takes_any_answer c.args.player.now c.args.permit c.requires.to_make) c.requires.to_make.ready.legal
+    (shut_only c.args.permit.call c.requires.shuts) (chore_may_want c.args.player.now c.args.permit c.requires.to_make) c.requires.to_make.ready.legal

@@ -18,7 +18,7 @@ returns-in_err-plan g c =
       carries = tt;
       stops = λ m at. stops_at_once m line old old.past refl at;
       course = tt;
-      run = run_unasked _ g.F.Fleet g.F.Wire.Wire.told _ c.args.fleet.now c.plan.new.fleet old c.args.wires.now c.plan.new.wires refl c.requires.wires c.in_err-plan.ensures.unplanned c.in_err-plan.ensures.same c.plan.ensures.able c.requires.ready.legal;
+      run = run_unasked _ g.F.Fleet g.F.Wire.Wire.told _ c.args.fleet.now c.plan.new.fleet old old c.args.wires.now c.plan.new.wires refl c.requires.wires refl c.in_err-plan.ensures.unplanned c.in_err-plan.ensures.same c.plan.ensures.able c.requires.ready.legal;
       full = λ h. absurd (cc (h, p.2));
       trimmed = refl;
     })

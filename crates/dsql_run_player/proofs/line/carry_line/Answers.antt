@@ -2,7 +2,6 @@ use Rattle.std.proofs.Common.{◌≡◌, refl, true}
 use Rattle.std.proofs.lemmas.Result.{err_from_is_err_and, on_ok_weaker, on_err_weaker}
 use Rattle.dsql_engine_laws.specs.follows.Sentences.{runs_on}
 use Rattle.dsql_run_player.proofs.Fitting.{fits_unheard, untelling}
-use Rattle.dsql_run_player.proofs.Hearing.{hears_none}
 use Rattle.dsql_run_player.proofs.Keeping.{run_after, run_of_wires, run_stays}
 use Rattle.dsql_run_player.proofs.Lines.{begun_done, begun_stops, stops_at_once}
 use Rattle.dsql_run_player.proofs.Singles.{started}
@@ -18,7 +17,7 @@ returns-in_err-check_room g c =
       carries = tt;
       stops = λ m at. stops_at_once m c.args.line old old.past refl at;
       course = tt;
-      run = run_stays _ g.F.Fleet g.F.Wire.Wire.told _ c.args.fleet.now old old c.args.wires.now refl c.requires.wires (hears_none old.past old.past refl) c.in_err-check_room.ensures.legal;
+      run = run_stays _ g.F.Fleet g.F.Wire.Wire.told _ c.args.fleet.now old old c.args.wires.now refl c.requires.wires refl c.in_err-check_room.ensures.legal;
       full = λ h. c.in_err-check_room.ensures.full;
       trimmed = refl;
     })
@@ -33,7 +32,7 @@ returns-in_err-admit-in-Start g c =
       carries = tt;
       stops = λ m at. stops_at_once m c.args.line old c.admit.new.player.past e.act.fails.same at;
       course = tt;
-      run = run_stays _ g.F.Fleet g.F.Wire.Wire.told _ c.args.fleet.now old c.admit.new.player c.args.wires.now refl c.requires.wires e.act.unheard e.act.legal;
+      run = run_stays _ g.F.Fleet g.F.Wire.Wire.told _ c.args.fleet.now old c.admit.new.player c.args.wires.now refl c.requires.wires e.act.fails.same e.act.legal;
       full = λ h. absurd (cc (h, p.2, e.act.fails.memory));
       trimmed = e.trimmed;
     })
@@ -95,7 +94,7 @@ returns-in_err-begin-in_default g c =
       carries = tt;
       stops = λ m at. stops_at_once m c.args.line old c.begin.new.player.past e.act.fails.same at;
       course = tt;
-      run = run_stays _ g.F.Fleet g.F.Wire.Wire.told _ c.args.fleet.now old c.begin.new.player c.args.wires.now refl c.requires.wires e.act.unheard e.act.legal;
+      run = run_stays _ g.F.Fleet g.F.Wire.Wire.told _ c.args.fleet.now old c.begin.new.player c.args.wires.now refl c.requires.wires e.act.fails.same e.act.legal;
       full = λ h. absurd (cc (h, p.2, e.act.fails.memory));
       trimmed = e.trimmed;
     })

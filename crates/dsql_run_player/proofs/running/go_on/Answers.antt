@@ -5,7 +5,6 @@ use Rattle.dsql_engine_laws.specs.laws_steps.Groups.{most_events}
 use Rattle.dsql_run_player.specs.Playing.{Playing}
 use Rattle.dsql_run_player.specs.Stepping.{MakesChore}
 use Rattle.dsql_run_player.proofs.Fitting.{untelling}
-use Rattle.dsql_run_player.proofs.Hearing.{hears_none}
 use Rattle.dsql_run_player.proofs.Keeping.{run_goes, run_stays, run_stops_on, run_then}
 use Rattle.dsql_run_player.proofs.Ran.{course_then, goes_after, goes_by_chore, goes_no_more}
 use Rattle.dsql_run_player.proofs.running.go_on.Goals as goal
@@ -20,7 +19,7 @@ returns-in_err-check_room g c =
       room = tt;
       same = refl;
       course = tt;
-      run = run_stays [] g.F.Fleet g.F.Wire.Wire.told _ c.args.fleet.now old old c.args.wires.now refl c.requires.wires (hears_none old.past old.past refl) c.in_err-check_room.ensures.legal;
+      run = run_stays [] g.F.Fleet g.F.Wire.Wire.told _ c.args.fleet.now old old c.args.wires.now refl c.requires.wires refl c.in_err-check_room.ensures.legal;
       full = λ h. c.in_err-check_room.ensures.full;
       trimmed = refl;
     })
@@ -99,7 +98,7 @@ returns-in_err-go_on_with-in-Some g c =
       course = tt;
       run =
           run_then [] g.F.Fleet g.F.Wire.Wire.told _ c.args.fleet.now c.make_first_chore.new.fleet c.make_first_chore.new.fleet old mid new c.args.wires.now c.make_first_chore.new.wires c.go_on_with.new.wires done.run.told done.run.able
-          (run_stops_on [] g.F.Fleet g.F.Wire.Wire.told _ c.make_first_chore.new.fleet mid new c.make_first_chore.new.wires c.go_on_with.new.wires refl done.run.wires e.run.stops e.run.legal);
+          (run_stops_on g.F.Fleet g.F.Wire.Wire.told _ c.make_first_chore.new.fleet mid new c.make_first_chore.new.wires c.go_on_with.new.wires refl done.run.wires e.run.stops e.run.legal);
       full = λ h. absurd (cc (h, p.2, e.fails.memory));
       trimmed = e.trimmed ∙ done.trimmed;
     })

@@ -59,7 +59,7 @@ returns-in_err-heard g c =
     let seen = ap (λ (p : Playing). (seat p.seats c.args.client).permit) c.self.view_is in
     let has : HasLeave old c.args.client c.in_ok-permit.permit = leave_at old c.args.client c.in_ok-permit.permit c.requires.ready (sym seen ∙ (sym c.take_leave.ensures.permit ∙ (c.in-Some.is ∙ ap (λ (l : Permit). Some l) (sym c.in_ok-permit.ensures.ok)))) in
     let stops : HearsAtMost g.W.Wire.told old.past old.past c.args.wires.now c.perform.new.self =
-    call_lacks g.W.Wire.told old c.args.client c.in_ok-permit.permit c.args.wires.now c.perform.new.self c.requires.ready has c.requires.wires c.in_err-heard.ensures.err in
+    call_lacks g.W.Wire.told old c.args.client c.in_ok-permit.permit c.args.wires.now c.perform.new.self c.requires.ready c.requires.room has c.requires.wires c.in_err-heard.ensures.err in
     let p = err_from_is_err_and c.from_residual-in_err-heard.result c.from_residual-in_err-heard.ensures.1 in
     record {
       hears = rw p.1 tt;
@@ -89,7 +89,7 @@ returns-in_err-next g c =
     let seen = ap (λ (p : Playing). (seat p.seats c.args.client).permit) c.self.view_is in
     let has : HasLeave old c.args.client c.in_ok-permit.permit = leave_at old c.args.client c.in_ok-permit.permit c.requires.ready (sym seen ∙ (sym c.take_leave.ensures.permit ∙ (c.in-Some.is ∙ ap (λ (l : Permit). Some l) (sym c.in_ok-permit.ensures.ok)))) in
     let stops : HearsAtMost g.W.Wire.told old.past old.past c.args.wires.now c.perform.new.self =
-    call_untaken g.W.Wire.told old c.args.client c.in_ok-permit.permit c.in_ok-heard.heard c.args.wires.now c.perform.new.self c.requires.ready has c.requires.wires
+    call_untaken g.W.Wire.told old c.args.client c.in_ok-permit.permit c.in_ok-heard.heard c.args.wires.now c.perform.new.self c.requires.ready c.requires.room has c.requires.wires
     (record { entry = c.in_ok-heard.ensures.entry; others = c.perform.ensures.others; noted = c.in_ok-heard.ensures.noted }) c.in_ok-heard.ensures.fits in
     let p = err_from_is_err_and c.from_residual-in_err-next.result c.from_residual-in_err-next.ensures.1 in
     record {

@@ -4,7 +4,7 @@ use Rattle.dsql_engine_laws.specs.journal.declared.entry.Permit.{Permit}
 use Rattle.dsql_engine_laws.specs.tenure.Judged.{answered}
 use Rattle.dsql_run_wires.proofs.Asking.{no_wire}
 use Rattle.dsql_run_player.specs.Acts.{TakesAnswer}
-use Rattle.dsql_run_player.proofs.Housekeeping.{chore_takes_any_answer, made_so}
+use Rattle.dsql_run_player.proofs.Housekeeping.{chore_may_want, made_so}
 use Rattle.dsql_run_player.proofs.Keeping.{run_unconnected}
 use Rattle.dsql_run_player.proofs.Opened.{connect_answered, opened_run}
 use Rattle.dsql_run_player.proofs.Taken.{at_err}
@@ -48,4 +48,4 @@ pub returns-in_err-heard-clause-run : goal.returns-in_err-heard-clause-run
 returns-in_err-heard-clause-run g c =
     let q = err_from_is_err_and c.from_residual.result c.from_residual.ensures.1 in
     run_unconnected g.F.Fleet g.F.Wire.Wire.told c.from_residual.result c.args.fleet.now c.connect_wire.new.fleet c.args.permit c.args.self.now c.args.wires.now c.connect_wire.new.wires (at_err c.from_residual.result q.0 q.1) c.requires.wires
-    c.in_err-heard.ensures.same c.in_err-heard.ensures.wants c.requires.opens (chore_takes_any_answer c.args.self.now c.args.permit c.requires.to_make) c.connect_wire.ensures.able c.requires.to_make.ready.legal
+    c.in_err-heard.ensures.same c.in_err-heard.ensures.wants c.requires.opens (chore_may_want c.args.self.now c.args.permit c.requires.to_make) c.connect_wire.ensures.able c.requires.to_make.ready.legal

@@ -3,7 +3,7 @@ use Rattle.dsql_history.specs.journal.HandlesAndCursors.{fits_at_its_place}
 use Rattle.std.specs.Prelude.{IsSomeAnd}
 use Rattle.std.proofs.lemmas.Result.{IfOk-weaker, on_err_weaker}
 use Rattle.dsql_wire.specs.Journaled.{Journaled, MayBeSent}
-use Rattle.dsql_run_wires.specs.Asked.{LacksMemory}
+use Rattle.dsql_run_wires.specs.Asked.{LacksMemory, LacksRoom}
 use Rattle.dsql_run_wires.specs.WiresFit.{slot, HearsEntry, SameHeard, Wants}
 use Rattle.dsql_run_wires.proofs.Slots.{wire_here, heard_here}
 use Rattle.dsql_run_wires.proofs.Staying.{one_changed}
@@ -50,10 +50,10 @@ returns-clause-err g c =
     let some : IsSomeAnd (slot ws p.conn) may = subst (λ (xs : List (Option (Journaled g.row.W.Denot))). IsSomeAnd (slot xs p.conn) may) (sym c.self.view_is) c.requires in
     let here : slot ws p.conn ≡ Some c.in-Some.wire = wire_here ws p.conn c.index_mut.result.now may c.in-Some.wire some c.index_mut.ensures.value c.in-Some.is in
     on_err_weaker c.perform_on.result
-    (λ (lacks : SameHeard g.W.Wire.told c.in-Some.wire c.perform_on.new.wire ⊎ Wants g.W.Wire.told p.call c.in-Some.wire c.perform_on.new.wire).
+    (λ (lacks : ((c.in-Some.wire.spare ≡ 0) × SameHeard g.W.Wire.told c.in-Some.wire c.perform_on.new.wire) ⊎ Wants g.W.Wire.told p.call c.in-Some.wire c.perform_on.new.wire).
     subst (λ (xs : List (Option (Journaled g.row.W.Denot))). LacksMemory g.W.Wire.told p xs (set ws p.conn (Some c.perform_on.new.wire))) c.self.view_is
     (elim lacks [
-      | inl same ↦ inl (one_changed g.W.Wire.told ws p.conn c.in-Some.wire c.perform_on.new.wire here same)
+      | inl full ↦ inl (subst (λ (o : Option (Journaled g.row.W.Denot)). LacksRoom o) (sym here) full.0, one_changed g.W.Wire.told ws p.conn c.in-Some.wire c.perform_on.new.wire here full.1)
       | inr wants ↦ inr (one_wanted g.W.Wire.told p ws c.in-Some.wire c.perform_on.new.wire here wants)
     ]))
     c.perform_on.ensures.err
