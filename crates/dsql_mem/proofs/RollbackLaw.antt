@@ -10,22 +10,18 @@ use Rattle.dsql_driver.specs.declared.call.DriverCall.{DriverCall}
 use Rattle.dsql_driver.specs.declared.call.DriverCall.TheVariants.{Connect, Valid, Ping, Prepare, CloseStmt, Exec, Query, Next, CloseRows, Begin, Rollback}
 use Rattle.dsql_driver.specs.declared.call.Level.{Level}
 use Rattle.dsql_value.specs.declared.value.Value.{Value}
-use Rattle.dsql_mem_session.specs.Cursor.{next_row}
-use Rattle.dsql_mem_calls.specs.Effect.{effect, carried_out, in_session}
-use Rattle.dsql_mem_session.specs.Calls.{Kept, executed_in, prepared, closed, queried_in, shown, given, next_taken, rows_closed, in_transaction}
+use Rattle.dsql_driver_session.specs.Session.{SessionState}
+use Rattle.dsql_mem_calls.specs.Effect.{effect, carried_out, in_undo}
+use Rattle.dsql_mem_session.specs.Calls.{executed_in, in_transaction}
 use Rattle.dsql_mem_store.specs.Entries.{Entries, AreAscending, value_at, with_state}
 use Rattle.dsql_mem.specs.Laws.{RollbackRestores, leaves_transaction, after_calls}
-use Rattle.dsql_mem_session.specs.Session.{SessionState, cursor_of, is_live, is_open}
-use Rattle.dsql_mem_session.specs.Statement.{Statement, statement_of}
+use Rattle.dsql_mem_session.specs.declared.session.MemSession.{MemSession}
 use Rattle.dsql_mem_store.specs.Undo.{rolled_back}
 use Rattle.dsql_mem_session.specs.declared.execute.Outcome.{Outcome}
 use Rattle.dsql_mem_session.specs.declared.execute.Outcome.TheVariants as outcome
 use Rattle.dsql_mem_store.specs.declared.note.Note.{Note}
-use Rattle.dsql_mem_session.specs.declared.query.Found.{Found}
-use Rattle.dsql_mem_session.specs.declared.query.Found.TheVariants.{Rows, Refused}
 use Rattle.dsql_mem_store.proofs.Ascending.{ascending-with_state}
 use Rattle.dsql_mem_store.proofs.DelLaw.{deletes_one_key}
-use Rattle.dsql_mem.proofs.EffectLemmas.{cond_both, option_both}
 use Rattle.dsql_mem_store.proofs.SetLaw.{sets_one_key}
 
 bytes_eq-swap : (xs ys : List ℕ) → bytes_eq xs ys ≡ bytes_eq ys xs
@@ -66,13 +62,13 @@ undone key state store h = record {
   merge false x y z h = refl
 
 -- Holds if a session's notes lead a store back to what it was.
-record LeadsBack (store : Entries) (session : SessionState) (origin : Entries) : Type 0 where
+record LeadsBack (store : Entries) (session : MemSession) (origin : Entries) : Type 0 where
   notes : List Note
   noted : session.undo ≡ Some notes
   ascending : AreAscending store
   back : Same (rolled_back notes store) origin
 
-carried_out-LeadsBack : (store : Entries) (session : SessionState) (origin : Entries) (o : Outcome) → LeadsBack store session origin → LeadsBack (carried_out store session o).store (carried_out store session o).session origin
+carried_out-LeadsBack : (store : Entries) (session : MemSession) (origin : Entries) (o : Outcome) → LeadsBack store session origin → LeadsBack (carried_out store session o).store (carried_out store session o).session origin
 carried_out-LeadsBack store session origin (outcome.Write key state count) h = record {
   notes = record { key = key; value = value_at key store } ∷ h.notes;
   noted = ap (option_map (λ notes. record { key = key; value = value_at key store } ∷ notes)) h.noted;
@@ -84,55 +80,36 @@ carried_out-LeadsBack store session origin (outcome.Write key state count) h = r
 }
 carried_out-LeadsBack store session origin (outcome.Refused answer) h = h
 
-abbrev KeepsUndo : SessionState → Kept → Type 0
-KeepsUndo session kept = kept.0.undo ≡ session.undo
+-- A call that changes only handles and cursors leaves what the notes lead back to.
+aside : (store : Entries) (session : MemSession) (origin : Entries) (live : SessionState) → LeadsBack store session origin → LeadsBack store (record session { live = live }) origin
+aside store session origin live h =
+    record { notes = h.notes; noted = h.noted; ascending = h.ascending; back = h.back }
 
-aside : (store : Entries) (session : SessionState) (origin : Entries) (kept : Kept) → KeepsUndo session kept → LeadsBack store session origin → LeadsBack store kept.0 origin
-aside store session origin kept k h =
-    record { notes = h.notes; noted = k ∙ h.noted; ascending = h.ascending; back = h.back }
-
-prepared-KeepsUndo : (session : SessionState) (text : List ℕ) (o : Option Statement) → KeepsUndo session (prepared session text o)
-prepared-KeepsUndo session text None = refl
-prepared-KeepsUndo session text (Some s) = cond_both (KeepsUndo session) _ _ _ refl refl
-
-shown-KeepsUndo : (session : SessionState) (f : Found) → KeepsUndo session (shown session f)
-shown-KeepsUndo session (Rows shape entries) = cond_both (KeepsUndo session) _ _ _ refl refl
-shown-KeepsUndo session (Refused answer) = refl
-
-given-KeepsUndo : (session : SessionState) (rows : ℕ) (row : Option (List Value)) → KeepsUndo session (given session rows row)
-given-KeepsUndo session rows None = refl
-given-KeepsUndo session rows (Some row) = refl
-
-one_call : (store : Entries) (session : SessionState) (origin : Entries) (call : DriverCall) → leaves_transaction call ≡ true → LeadsBack store session origin → LeadsBack (effect store session call).store (effect store session call).session origin
+one_call : (store : Entries) (session : MemSession) (origin : Entries) (call : DriverCall) → leaves_transaction call ≡ true → LeadsBack store session origin → LeadsBack (effect store session call).store (effect store session call).session origin
 one_call store session origin Connect l h = h
 one_call store session origin Valid l h = h
 one_call store session origin Ping l h = h
-one_call store session origin (Prepare text) l h = aside store session origin (prepared session text (statement_of text)) (prepared-KeepsUndo session text (statement_of text)) h
-one_call store session origin (CloseStmt handle) l h =
-    aside store session origin (closed session handle) (cond_both (KeepsUndo session) (is_live handle session) _ _ refl refl) h
-one_call store session origin (Exec i params) l h = carried_out-LeadsBack store session origin (executed_in store session i params) h
-one_call store session origin (Query i params) l h =
-    aside store session origin (shown session (queried_in store session i params)) (shown-KeepsUndo session (queried_in store session i params)) h
-one_call store session origin (Next rows) l h =
-    aside store session origin (next_taken session rows)
-    (option_both (KeepsUndo session) (λ c. given session rows (next_row c)) (cursor_of rows session) _ (λ c. given-KeepsUndo session rows (next_row c)) refl) h
-one_call store session origin (CloseRows rows) l h =
-    aside store session origin (rows_closed session rows) (cond_both (KeepsUndo session) (is_open rows session) _ _ refl refl) h
+one_call store session origin (Exec i params) l h = carried_out-LeadsBack store session origin (executed_in store session.live i params) h
+one_call store session origin (Prepare text) l h = aside store session origin _ h
+one_call store session origin (CloseStmt handle) l h = aside store session origin _ h
+one_call store session origin (Query i params) l h = aside store session origin _ h
+one_call store session origin (Next rows) l h = aside store session origin _ h
+one_call store session origin (CloseRows rows) l h = aside store session origin _ h
 one_call store session origin _ l h = cc
 
-all_calls : (store : Entries) (session : SessionState) (origin : Entries) (calls : List DriverCall) → list_all leaves_transaction calls ≡ true → LeadsBack store session origin → LeadsBack (after_calls store session calls).0 (after_calls store session calls).1 origin
+all_calls : (store : Entries) (session : MemSession) (origin : Entries) (calls : List DriverCall) → list_all leaves_transaction calls ≡ true → LeadsBack store session origin → LeadsBack (after_calls store session calls).0 (after_calls store session calls).1 origin
 all_calls store session origin [] l h = h
 all_calls store session origin (call ∷ calls) l h =
     let both = and_parts (leaves_transaction call) (list_all leaves_transaction calls) l in
     all_calls (effect store session call).store (effect store session call).session origin calls both.1
     (one_call store session origin call both.0 h)
 
-begun-LeadsBack : (store : Entries) (session : SessionState) (level : Level) (read_only : Bool) → AreAscending store → is_some session.undo ≡ false → LeadsBack store (effect store session (Begin level read_only)).session store
+begun-LeadsBack : (store : Entries) (session : MemSession) (level : Level) (read_only : Bool) → AreAscending store → is_some session.undo ≡ false → LeadsBack store (effect store session (Begin level read_only)).session store
 begun-LeadsBack store session level read_only ascending none =
-    subst (λ (b : Bool). LeadsBack store (in_session store (cond b (session, in_transaction) (record session { undo = Some [] }, Done))).session store) (sym none)
+    subst (λ (b : Bool). LeadsBack store (in_undo store session (cond b (session.undo, in_transaction) (Some [], Done))).session store) (sym none)
     (record { notes = []; noted = refl; ascending = ascending; back = record { at = λ q. refl } })
 
-rollback-store : (store : Entries) (session : SessionState) (notes : List Note) → session.undo ≡ Some notes → (effect store session Rollback).store ≡ rolled_back notes store
+rollback-store : (store : Entries) (session : MemSession) (notes : List Note) → session.undo ≡ Some notes → (effect store session Rollback).store ≡ rolled_back notes store
 rollback-store store session notes h = rw h refl
 
 pub rollback_restores : RollbackRestores

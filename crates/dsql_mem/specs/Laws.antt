@@ -6,7 +6,7 @@ use Rattle.dsql_driver.specs.declared.call.DriverCall.TheVariants.{Reset, Begin,
 use Rattle.dsql_driver.specs.declared.call.Level.{Level}
 use Rattle.dsql_mem_calls.specs.Effect.{effect}
 use Rattle.dsql_mem_store.specs.Entries.{Entries, AreAscending, value_at}
-use Rattle.dsql_mem_session.specs.Session.{SessionState}
+use Rattle.dsql_mem_session.specs.declared.session.MemSession.{MemSession}
 
 -- Is true if the call neither begins a transaction nor ends one.
 abbrev pub leaves_transaction : DriverCall → Bool
@@ -18,7 +18,7 @@ leaves_transaction Shut = false
 leaves_transaction _ = true
 
 -- Returns the map and the session after these calls, one after the other, if no other session calls.
-abbrev pub after_calls : Entries → SessionState → List DriverCall → Entries × SessionState
+abbrev pub after_calls : Entries → MemSession → List DriverCall → Entries × MemSession
 after_calls store session [] = (store, session)
 after_calls store session (call ∷ calls) =
     let after = effect store session call in after_calls after.store after.session calls
@@ -27,7 +27,7 @@ after_calls store session (call ∷ calls) =
 -- between that neither begin a transaction nor end one, and no other session writes.
 abbrev pub RollbackRestores : Type 0
 RollbackRestores =
-    (store : Entries) (session : SessionState) (level : Level) (read_only : Bool) (calls : List DriverCall)
+    (store : Entries) (session : MemSession) (level : Level) (read_only : Bool) (calls : List DriverCall)
     (key : List ℕ) → AreAscending store → is_some session.undo ≡ false → list_all leaves_transaction calls ≡ true →
     let begun = effect store session (Begin level read_only) in
     let done = after_calls begun.store begun.session calls in

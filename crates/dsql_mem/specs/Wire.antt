@@ -9,12 +9,13 @@ use Rattle.dsql_mem_plans.specs.Faults.{faults_after}
 use Rattle.dsql_mem_plans.specs.Fleets.{FleetState}
 use Rattle.dsql_mem_plans.specs.Plans.{fault_at}
 use Rattle.dsql_mem_store.specs.Entries.{Entries}
-use Rattle.dsql_mem_session.specs.Session.{SessionState, new_session}
+use Rattle.dsql_mem_session.specs.Session.{new_session}
+use Rattle.dsql_mem_session.specs.declared.session.MemSession.{MemSession}
 
 -- A wire: its session, its report, and how often it answered with a fault. And the faults that its fleet or its own
 -- plans put in its calls' places, oldest first. All wires of a fleet share the map, so it is no part of a wire.
 pub record WireState : Type 0 where
-  pub session : SessionState
+  pub session : MemSession
   pub told : WireTold
   pub planned : List Plan
   pub faults : ℕ

@@ -13,7 +13,8 @@ use Rattle.dsql_mem_calls.specs.Effect.{Effect, effect, only_answered}
 use Rattle.dsql_mem_session.specs.Calls.{no_such_handle, no_such_statement, not_a_command, not_a_query, wrong_arguments, key_is_not_text, not_a_number, out_of_range, in_transaction, no_transaction, numbers_spent}
 use Rattle.dsql_mem_store.specs.Entries.{Entries, with_value, value_at}
 use Rattle.dsql_mem_session.specs.Number.{number_of}
-use Rattle.dsql_mem_session.specs.Session.{SessionState, new_session}
+use Rattle.dsql_mem_session.specs.Session.{new_session}
+use Rattle.dsql_mem_session.specs.declared.session.MemSession.{MemSession}
 
 -- Holds if these words spell these numbers, or none.
 pub record WorkedNumbers : Type 0 where
@@ -66,10 +67,18 @@ pub record WorkedTexts : Type 0 where
   pub other_verb : executes (codes "PUT a 1") ≡ only no_such_statement
 
 -- Returns the answers to calls, one after the other, on this map and in this session.
-abbrev pub answers_from : Entries → SessionState → List DriverCall → List DriverAnswer
+abbrev pub answers_from : Entries → MemSession → List DriverCall → List DriverAnswer
 answers_from store session [] = []
 answers_from store session (call ∷ calls) = let after = effect store session call in
     after.answer ∷ answers_from after.store after.session calls
+
+-- Returns a session that can give one more handle and one more cursor.
+abbrev pub almost_spent : MemSession
+almost_spent =
+    record {
+      live = record { prepared = []; last_handle = 4294967294; cursors = []; last_cursor = 4294967294 };
+      undo = None;
+    }
 
 -- Returns the call that executes a handle with these parameters. Their names are ignored.
 abbrev pub exec : ℕ → List Param → DriverCall
@@ -125,7 +134,7 @@ pub record WorkedQueries : Type 0 where
       ≡ not_a_query ∷ Skip ∷ no_such_statement ∷ Skip ∷ no_such_handle ∷ []
   -- The numbers of cursors are spent.
   pub spent :
-      answers_from [] (record new_session { last_cursor = 4294967294 })
+      answers_from [] almost_spent
       (ask (codes "LIST a") ∷ ask (codes "LIST a") ∷ Next 4294967295 ∷ [])
       ≡ Cursor 4294967295 (codes "key" ∷ codes "value" ∷ []) ∷ numbers_spent ∷ End ∷ []
 
@@ -200,6 +209,6 @@ pub record WorkedHandles : Type 0 where
       ≡ Skip ∷ Skip ∷ []
   -- The numbers of handles are spent.
   pub spent :
-      answers_from [] (record new_session { last_handle = 4294967294 })
+      answers_from [] almost_spent
       (Prepare (codes "DEL a") ∷ Prepare (codes "DEL a") ∷ Prepare (codes "DEL") ∷ [])
       ≡ Prepared 4294967295 (pos 0) ∷ numbers_spent ∷ no_such_statement ∷ []

@@ -1,13 +1,13 @@
 ghost use Rattle.std.specs.Prelude.{◌≡◌, ◌≤◌, true, false, if◌then◌else◌, IfOk, OnOk, OnErr};
 ghost use Rattle.dsql_driver.specs.Fits.{is_memory};
+ghost use Rattle.dsql_driver_session.specs.Session.{IsSound};
 ghost use Rattle.dsql_mem_store.specs.Entries.{AreAscending};
-ghost use Rattle.dsql_mem_session.specs.Session.{IsSound};
 ghost use Rattle.dsql_mem.specs.Wire.{new_wire, comes_of, after_call, after_plan, after_want, CarriesOut};
 
 use dsql_driver::{Answered, DriverCall, Planned};
 use dsql_mem_calls::step_unless;
 use dsql_mem_plans::{Plan, WireLog};
-use dsql_mem_session::Session;
+use dsql_mem_session::MemSession;
 use dsql_mem_store::Store;
 use dsql_value::Memory;
 use std::alloc::Global;
@@ -16,7 +16,7 @@ use std::marker::Model;
 /// What a wire has for itself: its session and its log.
 #[derive(Drop)]
 pub(crate) struct Connection {
-    session: Session,
+    session: MemSession,
     log: WireLog,
 }
 
@@ -40,16 +40,16 @@ impl Connection {
     {
         let log = WireLog::new(alloc, number, planned)?;
         Ok(Connection {
-            session: Session::new(alloc),
+            session: MemSession::new(alloc),
             log,
         })
     }
 
     /// Does nothing. Its contract shows its callers that the numbers of the connection's session are sound.
     fn vouch(&self)
-        ensures { IsSound self.now.session }
+        ensures { IsSound self.now.session.live }
     {
-        self.session.vouch();
+        self.session.live.vouch();
     }
 
     /// Answers a call on a store. It answers Memory if there is no memory, and records that.
@@ -57,7 +57,7 @@ impl Connection {
         ensures copied { result.copy ≡ result.answer }
         ensures carried_out { is_memory result.answer ≡ false
             → CarriesOut store.old call.now result.answer self.old self.new }
-        ensures sound { IsSound self.old.session }
+        ensures sound { IsSound self.old.session.live }
         ensures ascending { AreAscending store.old }
         ensures wants { is_memory result.answer ≡ true → self.new ≡ after_want call.now self.old }
         ensures store { store.new

@@ -3,9 +3,9 @@ ghost use Rattle.dsql_driver.specs.Fits.{is_fault, is_memory};
 ghost use Rattle.dsql_driver.specs.Streams.{HasRisen};
 ghost use Rattle.dsql_driver.specs.Wires.{answer_of, connected_after, newly_told, plans_after, is_fault_of};
 ghost use Rattle.dsql_driver.specs.declared.answer.DriverAnswer.TheVariants.{Done};
+ghost use Rattle.dsql_driver_session.specs.Session.{handles_of, cursors_of};
 ghost use Rattle.dsql_mem_plans.specs.Faults.{faults_after};
 ghost use Rattle.dsql_mem_plans.specs.Fleets.{new_fleet, after_wire_plan, planned_for, connect_fault};
-ghost use Rattle.dsql_mem_session.specs.Session.{handles_of, cursors_of};
 ghost use Rattle.dsql_mem.specs.Wire.{ability_of, new_wire};
 
 use crate::wire::MemWire;
@@ -92,8 +92,8 @@ impl<R: AllocGlobal + Wait + Clone + Drop + Send> Fleet for MemFleet<R> {
         ensures asked { Some self.new.told ≡ connected_after number (answer_of result) (Some self.old.told) }
         ensures new { IfOk result (λ w. IfSome (Some w.told) (λ told. told ≡ newly_told number)) }
         ensures telling { IfOk result (λ w. is_some (Some self.old.told) ≡ true → is_some (Some w.told) ≡ true) }
-        ensures handles { IfOk result (λ w. handles_of w.session ≡ []) }
-        ensures cursors { IfOk result (λ w. cursors_of w.session ≡ []) }
+        ensures handles { IfOk result (λ w. handles_of w.session.live ≡ []) }
+        ensures cursors { IfOk result (λ w. cursors_of w.session.live ≡ []) }
         ensures ability { ability_of self.new ≡ ability_of self.old }
         ensures preferred { self.new.preferred ≡ self.old.preferred }
         ensures counted { self.old.faults ≤ self.new.faults }

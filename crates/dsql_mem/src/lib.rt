@@ -16,7 +16,7 @@ mod wire;
 pub mod worked;
 
 pub use dsql_mem_calls::apply;
-pub use dsql_mem_session::Session;
+pub use dsql_mem_session::MemSession;
 pub use dsql_mem_store::Store;
 pub use fleet::MemFleet;
 pub use wire::MemWire;

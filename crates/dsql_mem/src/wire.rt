@@ -2,8 +2,8 @@ ghost use Rattle.std.specs.Prelude.{◌≡◌, ◌≤◌, Some, true, false, IfO
 ghost use Rattle.dsql_driver.specs.Fits.{fits_of, is_fault, is_memory};
 ghost use Rattle.dsql_driver.specs.Streams.{HasRisen};
 ghost use Rattle.dsql_driver.specs.Wires.{told_after, with_plan, KeepsHandles, KeepsCursors};
+ghost use Rattle.dsql_driver_session.specs.Session.{handles_of, cursors_of};
 ghost use Rattle.dsql_mem_store.specs.Entries.{Entries, AreAscending};
-ghost use Rattle.dsql_mem_session.specs.Session.{handles_of, cursors_of};
 ghost use Rattle.dsql_mem.specs.Wire.{new_wire, after_plan, after_want, CarriesOut};
 
 use crate::connection::Connection;
@@ -66,9 +66,9 @@ impl<R: AllocGlobal + Wait + Drop> Wire for MemWire<R> {
 
     ghost faults = { λ w. w.faults };
 
-    ghost handles = { λ w. handles_of w.session };
+    ghost handles = { λ w. handles_of w.session.live };
 
-    ghost cursors = { λ w. cursors_of w.session };
+    ghost cursors = { λ w. cursors_of w.session.live };
 
     /// Makes one call on the store that all wires of the fleet share. No clause says that the store is as earlier calls
     /// left it, those of this wire or those of another one.
@@ -76,10 +76,10 @@ impl<R: AllocGlobal + Wait + Drop> Wire for MemWire<R> {
         ensures copied { result.copy ≡ result.answer }
         ensures fitting { fits_of call.now result.answer ≡ true }
         ensures told { Some self.new.told ≡ told_after call.now result.answer (Some self.old.told) }
-        ensures handles { KeepsHandles call.now result.answer (handles_of self.old.session)
-            (handles_of self.new.session) }
-        ensures cursors { KeepsCursors call.now result.answer (cursors_of self.old.session)
-            (cursors_of self.new.session) }
+        ensures handles { KeepsHandles call.now result.answer (handles_of self.old.session.live)
+            (handles_of self.new.session.live) }
+        ensures cursors { KeepsCursors call.now result.answer (cursors_of self.old.session.live)
+            (cursors_of self.new.session.live) }
         ensures counted { self.old.faults ≤ self.new.faults }
         ensures caused { is_fault result.answer ≡ true → HasRisen self.old.faults self.new.faults }
         ensures faultless { is_fault result.answer ≡ false → self.new.faults ≡ self.old.faults }
@@ -99,8 +99,8 @@ impl<R: AllocGlobal + Wait + Drop> Wire for MemWire<R> {
     fn plan(&mut self, nth: u32, what: Planned) -> Result<(), Memory>
         ensures told { OnOk result (Some self.new.told ≡ Some (with_plan (nth, what) self.old.told)) }
         ensures err { OnErr result (Some self.new.told ≡ Some self.old.told) }
-        ensures handles { handles_of self.new.session ≡ handles_of self.old.session }
-        ensures cursors { cursors_of self.new.session ≡ cursors_of self.old.session }
+        ensures handles { handles_of self.new.session.live ≡ handles_of self.old.session.live }
+        ensures cursors { cursors_of self.new.session.live ≡ cursors_of self.old.session.live }
         ensures faultless { self.new.faults ≡ self.old.faults }
 
         // Nothing else of the wire changes.

@@ -1,20 +1,29 @@
 ghost use Rattle.std.specs.Prelude.{◌≡◌, true, false, IfOk, OnOk, OnErr, if◌then◌else◌};
 ghost use Rattle.dsql_driver.specs.Fits.{is_memory};
+ghost use Rattle.dsql_driver_session.specs.Calls.{Keeps};
+ghost use Rattle.dsql_driver_session.specs.Copies.{copies_of};
 ghost use Rattle.dsql_mem_session.specs.Calls.{shown};
-ghost use Rattle.dsql_mem_session.specs.Copies.{copies_of};
 ghost use Rattle.dsql_mem_calls.specs.Effect.{effect, effect_unless, carried_out, taken_back};
 
 use dsql_driver::{Answered, DriverAnswer, DriverCall};
+use dsql_driver_session::{
+    Session, copies_of, copies_of_done, copies_of_failure, copies_of_result,
+};
 use dsql_mem_session::{
-    Found, NO_TRANSACTION, Outcome, Session, copies_of, copies_of_done, copies_of_failure,
-    copies_of_result,
+    Found, MemSession, NO_SUCH_HANDLE, NO_TRANSACTION, NUMBERS_SPENT, Outcome, execute_in,
+    prepare_in, query_in,
 };
 use dsql_mem_store::Store;
 use dsql_value::Memory;
 use std::alloc::Global;
 
 /// Carries out one driver call of a session, as a driver would. An answer of `Memory` leaves all as it was.
-pub fn apply(alloc: Global, store: &mut Store, session: &mut Session, call: &DriverCall) -> Answered
+pub fn apply(
+    alloc: Global,
+    store: &mut Store,
+    session: &mut MemSession,
+    call: &DriverCall,
+) -> Answered
     ensures copied { result.copy ≡ result.answer }
     ensures answer { is_memory result.answer ≡ false → result.answer ≡ (effect store.old session.old call.now).answer }
     ensures store { store.new
@@ -36,7 +45,7 @@ pub fn apply(alloc: Global, store: &mut Store, session: &mut Session, call: &Dri
 pub fn step(
     alloc: Global,
     store: &mut Store,
-    session: &mut Session,
+    session: &mut MemSession,
     call: &DriverCall,
 ) -> Result<Answered, Memory>
     ensures answer { IfOk result (λ answered. answered ≡ copies_of (effect store.old session.old call.now).answer) }
@@ -48,20 +57,20 @@ pub fn step(
     match call {
         DriverCall::Connect | DriverCall::Valid | DriverCall::Ping => Ok(copies_of_done()),
         DriverCall::Reset | DriverCall::Shut => take_back(alloc, store, session),
-        DriverCall::Prepare(text) => session.prepare(alloc, text),
-        DriverCall::CloseStmt(handle) => session.close(alloc, *handle),
+        DriverCall::Prepare(text) => prepare_in(alloc, &mut session.live, text),
+        DriverCall::CloseStmt(handle) => session.live.close(alloc, *handle, NO_SUCH_HANDLE),
         DriverCall::Exec(input, params) => {
-            let outcome = session.execute(alloc, store, input, params.as_slice())?;
+            let outcome = execute_in(alloc, store, &session.live, input, params.as_slice())?;
             carry_out(alloc, store, session, outcome)
         }
         DriverCall::Query(input, params) => {
-            let found = session.query(alloc, store, input, params.as_slice())?;
-            show(alloc, session, found)
+            let found = query_in(alloc, store, &session.live, input, params.as_slice())?;
+            show(alloc, &mut session.live, found)
         }
-        DriverCall::Next(rows) => session.take_row(alloc, *rows),
-        DriverCall::CloseRows(rows) => session.close_rows(alloc, *rows),
-        DriverCall::Begin { .. } => session.begin(alloc),
-        DriverCall::Commit => session.commit(alloc),
+        DriverCall::Next(rows) => session.live.take_row(alloc, *rows, NO_SUCH_HANDLE),
+        DriverCall::CloseRows(rows) => session.live.close_rows(alloc, *rows, NO_SUCH_HANDLE),
+        DriverCall::Begin { .. } => session.undo.begin(alloc),
+        DriverCall::Commit => session.undo.commit(alloc),
         DriverCall::Rollback => roll_back(alloc, store, session),
     }
 }
@@ -72,7 +81,7 @@ pub fn step_unless(
     fault: Option<DriverAnswer>,
     alloc: Global,
     store: &mut Store,
-    session: &mut Session,
+    session: &mut MemSession,
     call: &DriverCall,
 ) -> Result<Answered, Memory>
     ensures answer { IfOk result (λ answered. answered
@@ -92,7 +101,7 @@ pub fn step_unless(
 fn carry_out(
     alloc: Global,
     store: &mut Store,
-    session: &mut Session,
+    session: &mut MemSession,
     outcome: Outcome,
 ) -> Result<Answered, Memory>
     ensures answer { IfOk result (λ answered. answered ≡ copies_of (carried_out store.old session.old outcome).answer) }
@@ -107,15 +116,15 @@ fn carry_out(
             value,
             affected,
         } => {
-            session.write(alloc, store, &key, value)?;
-            Ok(copies_of_result(affected))
+            session.undo.write(alloc, store, &key, value)?;
+            Ok(copies_of_result(0, affected))
         }
         Outcome::Refused(answer) => copies_of(answer),
     }
 }
 
 /// Rolls back the session's transaction, or answers with a failure if none is open.
-fn roll_back(alloc: Global, store: &mut Store, session: &mut Session) -> Result<Answered, Memory>
+fn roll_back(alloc: Global, store: &mut Store, session: &mut MemSession) -> Result<Answered, Memory>
     ensures answer { IfOk result (λ answered. answered
         ≡ copies_of (effect store.old session.old DriverCall.Rollback).answer) }
     ensures store { OnOk result (store.new ≡ (effect store.old session.old DriverCall.Rollback).store) }
@@ -123,7 +132,7 @@ fn roll_back(alloc: Global, store: &mut Store, session: &mut Session) -> Result<
     ensures store_stays { OnErr result (store.new ≡ store.old) }
     ensures session_stays { OnErr result (session.new ≡ session.old) }
 {
-    if session.in_transaction() {
+    if session.undo.is_open() {
         take_back(alloc, store, session)
     } else {
         copies_of_failure(alloc, NO_TRANSACTION)
@@ -131,28 +140,27 @@ fn roll_back(alloc: Global, store: &mut Store, session: &mut Session) -> Result<
 }
 
 /// Takes back what the session wrote in its open transaction, if there is one, and ends it.
-fn take_back(alloc: Global, store: &mut Store, session: &mut Session) -> Result<Answered, Memory>
+fn take_back(alloc: Global, store: &mut Store, session: &mut MemSession) -> Result<Answered, Memory>
     ensures answer { IfOk result (λ answered. answered ≡ copies_of (taken_back store.old session.old).answer) }
     ensures store { OnOk result (store.new ≡ (taken_back store.old session.old).store) }
     ensures session { OnOk result (session.new ≡ (taken_back store.old session.old).session) }
     ensures store_stays { OnErr result (store.new ≡ store.old) }
     ensures session_stays { OnErr result (session.new ≡ session.old) }
 {
-    if let Some(notes) = session.notes() {
+    if let Some(notes) = session.undo.notes() {
         *store = store.before(alloc, notes)?;
     }
-    session.forget();
+    session.undo.forget();
     Ok(copies_of_done())
 }
 
 /// Opens a cursor on what a query found, or answers why the query is refused.
 fn show(alloc: Global, session: &mut Session, found: Found) -> Result<Answered, Memory>
-    ensures answer { IfOk result (λ answered. answered ≡ copies_of (shown session.old found).1) }
-    ensures session { OnOk result (session.new ≡ (shown session.old found).0) }
+    ensures served { IfOk result (λ answered. Keeps (shown session.old found) answered session.new) }
     ensures stays { OnErr result (session.new ≡ session.old) }
 {
     match found {
-        Found::Rows { shape, entries } => session.open(alloc, shape, entries),
+        Found::Rows(set) => session.open(alloc, set, NUMBERS_SPENT),
         Found::Refused(answer) => copies_of(answer),
     }
 }

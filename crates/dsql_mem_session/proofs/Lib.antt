@@ -1,4 +1,2 @@
-pub mod CursorLemmas
 pub mod NumberLemmas
-pub mod SessionLemmas
 pub mod WordLemmas

@@ -1,22 +1,23 @@
 -- The outcomes of commands and queries on a map, and how a call that concerns the session alone changes it and
 -- is answered.
-use Rattle.std.specs.Prelude.{ℕ, ◌+◌, ℤ, pos, ◌+ℤ◌, ◌==◌, nat_lt, List, [], ◌∷◌, ◌++◌, length, Option, Some, None, is_some, codes, if◌then◌else◌}
+use Rattle.std.specs.Prelude.{ℕ, ℤ, pos, ◌+ℤ◌, ◌==◌, nat_lt, List, [], length, Option, Some, None, is_some, codes, if◌then◌else◌}
 use Rattle.std.specs.Option.{option_map_or}
 use Rattle.dsql_driver.specs.declared.answer.DriverAnswer.{DriverAnswer}
-use Rattle.dsql_driver.specs.declared.answer.DriverAnswer.TheVariants.{Done, Prepared, Cursor, Row, End, Skip, Fail}
+use Rattle.dsql_driver.specs.declared.answer.DriverAnswer.TheVariants.{Done, Skip, Fail}
 use Rattle.dsql_driver.specs.declared.call.Input.{Input}
 use Rattle.dsql_driver.specs.declared.call.Input.TheVariants as input
 use Rattle.dsql_value.specs.declared.value.Param.{Param}
 use Rattle.dsql_value.specs.declared.value.Value.{Value}
 use Rattle.dsql_value.specs.declared.value.Value.TheVariants.{Int}
-use Rattle.dsql_mem_session.specs.Cursor.{columns_of, next_row, with_advanced}
+use Rattle.dsql_driver_session.specs.Calls.{Kept, handle_given, opened}
+use Rattle.dsql_driver_session.specs.Session.{SessionState, text_of}
 use Rattle.dsql_mem_store.specs.Entries.{Entries, value_at, entry_at, listed}
+use Rattle.dsql_mem_store.specs.declared.note.Note.{Note}
 use Rattle.dsql_mem_session.specs.Filled.{left_after, key_for, value_for}
 use Rattle.dsql_mem_session.specs.Number.{fits_i64}
-use Rattle.dsql_mem_session.specs.Session.{SessionState, largest_number, is_live, text_of, cursor_of, is_open, without_handle, without_cursor}
+use Rattle.dsql_mem_session.specs.Shape.{result_set}
 use Rattle.dsql_mem_session.specs.Statement.{Statement, Set, Add, Del, Get, ListKeys, statement_of, inputs_of, is_query}
-use Rattle.dsql_mem_session.specs.declared.cursor.Shape.{Shape}
-use Rattle.dsql_mem_session.specs.declared.cursor.Shape.TheVariants as shape
+use Rattle.dsql_mem_session.specs.declared.shape.Shape.TheVariants as shape
 use Rattle.dsql_mem_session.specs.declared.execute.Outcome.{Outcome}
 use Rattle.dsql_mem_session.specs.declared.execute.Outcome.TheVariants.{Write}
 use Rattle.dsql_mem_session.specs.declared.execute.Outcome.TheVariants as outcome
@@ -117,9 +118,11 @@ executed_in store session (input.Handle handle) params =
 -- Returns what a query finds that has as many parameters as inputs.
 abbrev pub found : Entries → Statement → List Param → Found
 found store (Get key) params =
-    option_map_or (λ k. Rows shape.Values (entry_at k store)) (key_for key params) (Refused key_is_not_text)
+    option_map_or (λ k. Rows (result_set shape.Values (entry_at k store))) (key_for key params)
+    (Refused key_is_not_text)
 found store (ListKeys prefix) params =
-    option_map_or (λ p. Rows shape.Entries (listed p store)) (key_for prefix params) (Refused key_is_not_text)
+    option_map_or (λ p. Rows (result_set shape.Entries (listed p store))) (key_for prefix params)
+    (Refused key_is_not_text)
 found store _ params = Refused not_a_query
 
 -- Returns what querying a statement finds.
@@ -148,74 +151,21 @@ queried_in store session (input.Handle handle) params =
     option_map_or (λ text. queried_prepared store (statement_of text) params) (text_of handle session)
     (Refused no_such_handle)
 
--- A session after a call, with the answer.
-abbrev pub Kept : Type 0
-Kept = SessionState × DriverAnswer
-
--- Returns the session after a statement with this many inputs got the next handle, with the answer. If the
--- handles' numbers are spent, it is a failure.
-abbrev pub handle_given : SessionState → List ℕ → ℕ → Kept
-handle_given session text inputs = let handle = session.last_handle + 1 in
-    if nat_lt session.last_handle largest_number then (
-      record session {
-        statements = session.statements
-            ++ (record { handle = handle; text = text }) ∷ [];
-        last_handle = handle;
-      },
-      Prepared handle (pos inputs),
-    )
-    else (session, numbers_spent)
-
 -- Returns the session after a text was prepared, with the answer.
 abbrev pub prepared : SessionState → List ℕ → Option Statement → Kept
 prepared session text None = (session, no_such_statement)
-prepared session text (Some statement) = handle_given session text (inputs_of statement)
-
--- Returns the session after a handle was closed, with the answer.
-abbrev pub closed : SessionState → ℕ → Kept
-closed session handle =
-    if is_live handle session then (record session { statements = without_handle handle session.statements }, Done)
-    else (session, no_such_handle)
-
--- Returns the session after a query's rows got the next cursor, with the answer. If the cursors' numbers are
--- spent, it is a failure.
-abbrev pub opened : SessionState → Shape → Entries → Kept
-opened session shape entries = let rows = session.last_cursor + 1 in
-    if nat_lt session.last_cursor largest_number then (
-      record session {
-        cursors = session.cursors ++ (record { number = rows; shape = shape; left = entries }) ∷ [];
-        last_cursor = rows;
-      },
-      Cursor rows (columns_of shape),
-    )
-    else (session, numbers_spent)
+prepared session text (Some statement) = handle_given session text (inputs_of statement) numbers_spent
 
 -- Returns the session and the answer after a query. A cursor shows what the query found, or the answer is its
 -- refusal.
 abbrev pub shown : SessionState → Found → Kept
-shown session (Rows shape entries) = opened session shape entries
+shown session (Rows set) = opened session set numbers_spent
 shown session (Refused answer) = (session, answer)
 
--- Returns the session and the answer after a cursor gave a row, or none was left.
-abbrev pub given : SessionState → ℕ → Option (List Value) → Kept
-given session rows None = (session, End)
-given session rows (Some row) = (record session { cursors = with_advanced rows session.cursors }, Row row)
+-- Returns the notes after a transaction began, with the answer.
+abbrev pub begun : Option (List Note) → Option (List Note) × DriverAnswer
+begun undo = if is_some undo then (undo, in_transaction) else (Some [], Done)
 
--- Returns the session after a cursor's next row was taken, with the answer.
-abbrev pub next_taken : SessionState → ℕ → Kept
-next_taken session rows =
-    option_map_or (λ c. given session rows (next_row c)) (cursor_of rows session) (session, no_such_handle)
-
--- Returns the session after a cursor was closed, with the answer.
-abbrev pub rows_closed : SessionState → ℕ → Kept
-rows_closed session rows =
-    if is_open rows session then (record session { cursors = without_cursor rows session.cursors }, Done)
-    else (session, no_such_handle)
-
--- Returns the session after a transaction began, with the answer.
-abbrev pub begun : SessionState → Kept
-begun session = if is_some session.undo then (session, in_transaction) else (record session { undo = Some [] }, Done)
-
--- Returns the session after a transaction ended and left what it wrote, with the answer.
-abbrev pub committed : SessionState → Kept
-committed session = if is_some session.undo then (record session { undo = None }, Done) else (session, no_transaction)
+-- Returns the notes after a transaction ended and left what it wrote, with the answer.
+abbrev pub committed : Option (List Note) → Option (List Note) × DriverAnswer
+committed undo = if is_some undo then (None, Done) else (undo, no_transaction)

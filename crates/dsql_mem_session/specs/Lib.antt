@@ -1,8 +1,7 @@
 pub mod Calls
-pub mod Copies
-pub mod Cursor
 pub mod Filled
 pub mod Number
 pub mod Session
+pub mod Shape
 pub mod Spelled
 pub mod Statement

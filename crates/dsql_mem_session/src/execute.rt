@@ -8,9 +8,9 @@ use crate::failures::{
     WRONG_ARGUMENTS,
 };
 use crate::filled::{key_for, left_after, value_for};
-use crate::session::Session;
 use crate::statement::Statement;
 use dsql_driver::{DriverAnswer, Input};
+use dsql_driver_session::Session;
 use dsql_mem_store::Store;
 use dsql_value::{Memory, Param, Txt, Value};
 use std::alloc::Global;
@@ -37,25 +37,23 @@ impl Outcome {
     }
 }
 
-impl Session {
-    /// Returns the outcome of a command in a session.
-    pub fn execute(
-        &self,
-        alloc: Global,
-        store: &Store,
-        input: &Input,
-        params: &[Param],
-    ) -> Result<Outcome, Memory>
-        ensures { IfOk result (λ outcome. outcome ≡ executed_in store.now self.now input.now params.now) }
-    {
-        match input {
-            Input::Text(_) if !params.is_empty() => Ok(Outcome::Refused(DriverAnswer::Skip)),
-            Input::Text(text) => execute_text(alloc, store, text.as_str()),
-            Input::Handle(handle) => match self.text(*handle) {
-                Some(text) => execute_prepared(alloc, store, text, params),
-                None => Outcome::failure(alloc, NO_SUCH_HANDLE),
-            },
-        }
+/// Returns the outcome of a command in a session.
+pub fn execute_in(
+    alloc: Global,
+    store: &Store,
+    session: &Session,
+    input: &Input,
+    params: &[Param],
+) -> Result<Outcome, Memory>
+    ensures { IfOk result (λ outcome. outcome ≡ executed_in store.now session.now input.now params.now) }
+{
+    match input {
+        Input::Text(_) if !params.is_empty() => Ok(Outcome::Refused(DriverAnswer::Skip)),
+        Input::Text(text) => execute_text(alloc, store, text.as_str()),
+        Input::Handle(handle) => match session.text(*handle) {
+            Some(text) => execute_prepared(alloc, store, text, params),
+            None => Outcome::failure(alloc, NO_SUCH_HANDLE),
+        },
     }
 }
 

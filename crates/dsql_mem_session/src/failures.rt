@@ -1,6 +1,6 @@
 //! The texts of the driver's failures.
 
-pub(crate) const NO_SUCH_HANDLE: &str = "mem: no such handle";
+pub const NO_SUCH_HANDLE: &str = "mem: no such handle";
 
 pub(crate) const NO_SUCH_STATEMENT: &str = "mem: no such statement";
 
@@ -20,4 +20,4 @@ pub(crate) const IN_TRANSACTION: &str = "mem: in transaction";
 
 pub const NO_TRANSACTION: &str = "mem: no transaction";
 
-pub(crate) const NUMBERS_SPENT: &str = "mem: numbers spent";
+pub const NUMBERS_SPENT: &str = "mem: numbers spent";

@@ -2,19 +2,20 @@
 //! a few words over a store.
 #![tactic(auto)]
 
-mod copies;
-mod cursor;
 mod execute;
 mod failures;
 mod filled;
 mod number;
+mod prepare;
 mod query;
 mod session;
+mod shape;
 mod statement;
+mod undo;
 
-pub use copies::{copies_of, copies_of_done, copies_of_failure, copies_of_result};
-pub use cursor::Shape;
-pub use execute::Outcome;
-pub use failures::NO_TRANSACTION;
-pub use query::Found;
-pub use session::Session;
+pub use execute::{Outcome, execute_in};
+pub use failures::{NO_SUCH_HANDLE, NO_TRANSACTION, NUMBERS_SPENT};
+pub use prepare::prepare_in;
+pub use query::{Found, query_in};
+pub use session::MemSession;
+pub use undo::Undo;

@@ -3,22 +3,22 @@ ghost use Rattle.dsql_mem_session.specs.Calls.{found, queried, queried_text, que
 ghost use Rattle.dsql_mem_session.specs.Spelled.{spelled};
 ghost use Rattle.dsql_mem_session.specs.Statement.{statement_of};
 
-use crate::cursor::Shape;
 use crate::failures::{
     KEY_IS_NOT_TEXT, NO_SUCH_HANDLE, NO_SUCH_STATEMENT, NOT_A_QUERY, WRONG_ARGUMENTS,
 };
 use crate::filled::key_for;
-use crate::session::Session;
+use crate::shape::Shape;
 use crate::statement::Statement;
 use dsql_driver::{DriverAnswer, Input};
-use dsql_mem_store::{Entry, Store};
-use dsql_value::{Items, Memory, Param, Txt};
+use dsql_driver_session::{ResultSet, Session};
+use dsql_mem_store::Store;
+use dsql_value::{Memory, Param, Txt};
 use std::alloc::Global;
 
-/// The outcome of a query: the entries of its rows, or an answer that says why there are none.
+/// The outcome of a query: its columns and rows, or an answer that says why there are none.
 #[derive(Drop)]
 pub enum Found {
-    Rows { shape: Shape, entries: Items<Entry> },
+    Rows(ResultSet),
     Refused(DriverAnswer),
 }
 
@@ -32,25 +32,23 @@ impl Found {
     }
 }
 
-impl Session {
-    /// Returns what a query finds in a session.
-    pub fn query(
-        &self,
-        alloc: Global,
-        store: &Store,
-        input: &Input,
-        params: &[Param],
-    ) -> Result<Found, Memory>
-        ensures { IfOk result (λ found. found ≡ queried_in store.now self.now input.now params.now) }
-    {
-        match input {
-            Input::Text(_) if !params.is_empty() => Ok(Found::Refused(DriverAnswer::Skip)),
-            Input::Text(text) => query_text(alloc, store, text.as_str()),
-            Input::Handle(handle) => match self.text(*handle) {
-                Some(text) => query_prepared(alloc, store, text, params),
-                None => Found::failure(alloc, NO_SUCH_HANDLE),
-            },
-        }
+/// Returns what a query finds in a session.
+pub fn query_in(
+    alloc: Global,
+    store: &Store,
+    session: &Session,
+    input: &Input,
+    params: &[Param],
+) -> Result<Found, Memory>
+    ensures { IfOk result (λ found. found ≡ queried_in store.now session.now input.now params.now) }
+{
+    match input {
+        Input::Text(_) if !params.is_empty() => Ok(Found::Refused(DriverAnswer::Skip)),
+        Input::Text(text) => query_text(alloc, store, text.as_str()),
+        Input::Handle(handle) => match session.text(*handle) {
+            Some(text) => query_prepared(alloc, store, text, params),
+            None => Found::failure(alloc, NO_SUCH_HANDLE),
+        },
     }
 }
 
@@ -110,17 +108,17 @@ fn find(
 {
     match statement {
         Statement::Get { key } => match key_for(key, params) {
-            Some(key) => Ok(Found::Rows {
-                shape: Shape::Values,
-                entries: store.entry(alloc, key)?,
-            }),
+            Some(key) => {
+                let entries = store.entry(alloc, key)?;
+                Ok(Found::Rows(Shape::Values.result_set(alloc, &entries)?))
+            }
             None => Found::failure(alloc, KEY_IS_NOT_TEXT),
         },
         Statement::ListKeys { prefix } => match key_for(prefix, params) {
-            Some(prefix) => Ok(Found::Rows {
-                shape: Shape::Entries,
-                entries: store.list(alloc, prefix)?,
-            }),
+            Some(prefix) => {
+                let entries = store.list(alloc, prefix)?;
+                Ok(Found::Rows(Shape::Entries.result_set(alloc, &entries)?))
+            }
             None => Found::failure(alloc, KEY_IS_NOT_TEXT),
         },
         Statement::Set { .. } | Statement::Add { .. } | Statement::Del { .. } => {

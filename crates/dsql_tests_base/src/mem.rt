@@ -1,7 +1,7 @@
 //! Tests of the driver in memory: in one session, and in a thread.
 
 use dsql_driver::{DriverAnswer, DriverCall, Fleet, Input, Level, Wire};
-use dsql_mem::{MemFleet, Session, Store, apply};
+use dsql_mem::{MemFleet, MemSession, Store, apply};
 use dsql_value::{Items, Memory, Txt};
 use std::alloc::Global;
 use std::test::Fail;
@@ -19,7 +19,7 @@ const BEGIN: DriverCall = DriverCall::Begin {
 };
 
 /// Carries out a driver call, and returns whether it succeeds.
-fn goes(alloc: Global, store: &mut Store, session: &mut Session, call: &DriverCall) -> bool {
+fn goes(alloc: Global, store: &mut Store, session: &mut MemSession, call: &DriverCall) -> bool {
     let answered = apply(alloc, store, session, call);
     matches!(
         answered.answer,
@@ -31,7 +31,7 @@ fn goes(alloc: Global, store: &mut Store, session: &mut Session, call: &DriverCa
 fn a_rollback_finds_memory(rt: HostRuntime) -> Result<(), Fail> {
     let alloc = rt.alloc();
     let mut store = Store::new(alloc);
-    let mut session = Session::new(alloc);
+    let mut session = MemSession::new(alloc);
     let set = exec(alloc, "SET a 1")?;
     assert!(rt; goes(alloc, &mut store, &mut session, &BEGIN));
     assert!(rt; goes(alloc, &mut store, &mut session, &set));

@@ -10,12 +10,28 @@ use dsql_value::Memory;
 use std::alloc::Global;
 use std::test::Fail;
 
-const ALL: [&[(&str, &str)]; 4] = [
+/// A script, what its reports begin with, and how each of them goes on.
+type Case = (&'static str, &'static str, &'static [&'static str]);
+
+const ALL: [&[Case]; 4] = [
     execs::REPORTS,
     single_rows::REPORTS,
     prepared_rows::REPORTS,
     open_rows::REPORTS,
 ];
+
+/// Returns each script with each of its reports.
+fn all_reports(alloc: Global) -> Result<Vec<(&'static str, String)>, Memory> {
+    let mut reports = Vec::new(alloc);
+    for cases in ALL {
+        for (script, begins, ends) in cases {
+            for end in *ends {
+                reports.push((*script, format!(in alloc; "{begins}{end}")?))?;
+            }
+        }
+    }
+    Ok(reports)
+}
 
 /// Is true if a script gives this report.
 fn gives(alloc: Global, script: &str, report: &str) -> Result<bool, Memory> {
@@ -24,10 +40,10 @@ fn gives(alloc: Global, script: &str, report: &str) -> Result<bool, Memory> {
 
 #[test]
 fn scripts_give_the_reports_that_their_driver_tells(rt: HostRuntime) -> Result<(), Fail> {
-    for rows in ALL {
-        for (script, report) in rows {
-            assert!(rt; gives(rt.alloc(), script, report)?, "{report}");
-        }
+    let reports = all_reports(rt.alloc())?;
+    for (script, report) in &reports {
+        let report = report.as_str();
+        assert!(rt; gives(rt.alloc(), script, report)?, "{report}");
     }
     Ok(())
 }
@@ -49,13 +65,13 @@ fn stops_at_each_answer(alloc: Global, script: &str, report: &str) -> Result<boo
 
 #[test]
 fn a_driver_without_memory_stops_the_run(rt: HostRuntime) -> Result<(), Fail> {
-    for rows in ALL {
-        for (script, report) in rows {
-            assert!(rt;
-                stops_at_each_answer(rt.alloc(), script, report)?,
-                "{report}"
-            );
-        }
+    let reports = all_reports(rt.alloc())?;
+    for (script, report) in &reports {
+        let report = report.as_str();
+        assert!(rt;
+            stops_at_each_answer(rt.alloc(), script, report)?,
+            "{report}"
+        );
     }
     Ok(())
 }

@@ -1,4 +1,3 @@
 pub mod Answers
-pub mod Cursors
 pub mod Fleet
 pub mod Table

@@ -3,8 +3,6 @@
 //! output.
 #![tactic(auto)]
 
-mod answers;
-mod cursors;
 mod fleet;
 mod table;
 mod wire;

@@ -1,30 +1,30 @@
 //! The table from which each query is answered: three cities, with the years in which they were founded.
-ghost use Rattle.std.specs.Prelude.{◌≡◌, IfOk, slice_get};
-ghost use Rattle.fixed_answers.specs.Table.{columns, table};
+ghost use Rattle.std.specs.Prelude.{◌≡◌, IfOk};
+ghost use Rattle.fixed_answers.specs.Table.{row_of, table};
 
-use dsql_value::{Columns, Items, Memory, Txt, Value, Values};
+use dsql_driver_session::ResultSet;
+use dsql_value::{Items, Memory, Txt, Value, Values};
 use std::alloc::Global;
 
-/// Returns the names of the columns.
-pub(crate) fn columns(alloc: Global) -> Result<Columns, Memory>
-    ensures { IfOk result (λ names. names ≡ columns) }
+/// Returns the whole table.
+pub(crate) fn table(alloc: Global) -> Result<ResultSet, Memory>
+    ensures { IfOk result (λ set. set ≡ table) }
 {
     let city = Txt::copy_of(alloc, "city")?;
     let founded = Txt::copy_of(alloc, "founded")?;
-    Ok(Items::new(vec![in alloc; city, founded]?))
+    let columns = Items::new(vec![in alloc; city, founded]?);
+    let oldest = row(alloc, "Philadelphia", 1682)?;
+    let second = row(alloc, "Saint Petersburg", 1703)?;
+    let newest = row(alloc, "Canberra", 1913)?;
+    let rows = vec![in alloc; oldest, second, newest]?;
+    Ok(ResultSet::of(columns, rows))
 }
 
-/// Returns the row in this place, counted from 0, if there is one.
-pub(crate) fn row(alloc: Global, place: u64) -> Result<Option<Values>, Memory>
-    ensures { IfOk result (λ row. row ≡ slice_get table place) }
+/// Returns the row of a city that was founded in this year.
+fn row(alloc: Global, city: &str, year: u16) -> Result<Values, Memory>
+    ensures { IfOk result (λ row. row ≡ row_of city.now year) }
 {
-    let (name, year) = match place {
-        0 => ("Philadelphia", 1682),
-        1 => ("Saint Petersburg", 1703),
-        2 => ("Canberra", 1913),
-        _ => return Ok(None),
-    };
-    let city = Value::Text(Txt::copy_of(alloc, name)?);
-    let values = vec![in alloc; city, Value::Int(year)]?;
-    Ok(Some(Items::new(values)))
+    let city = Value::Text(Txt::copy_of(alloc, city)?);
+    let values = vec![in alloc; city, Value::Int(i64::from(year))]?;
+    Ok(Items::new(values))
 }

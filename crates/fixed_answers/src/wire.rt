@@ -1,74 +1,79 @@
 //! One connection to the fixed table.
-ghost use Rattle.std.specs.Prelude.{◌≡◌, ◌≤◌, [], None, true, IfOk, OnOk, OnErr};
-ghost use Rattle.fixed_answers.specs.Answers.{effect, faults_after, queried, twice};
-ghost use Rattle.fixed_answers.specs.Cursors.{are_within, live_cursors, no_cursors};
+ghost use Rattle.std.specs.Prelude.{◌≡◌, ◌≤◌, None, IfOk, OnErr};
+ghost use Rattle.dsql_driver_session.specs.Calls.{Keeps};
+ghost use Rattle.dsql_driver_session.specs.Session.{IsSound, cursors_of, handles_of, new_session};
+ghost use Rattle.fixed_answers.specs.Answers.{effect, faults_after, queried};
 
-use crate::answers::{NO_PARAMETERS, ONLY_QUERIES, done, no_memory, refusal};
-use crate::cursors::Cursors;
+use crate::table::table;
 use dsql_driver::{Answered, DriverAnswer, DriverCall, Input, Planned, Wire};
+use dsql_driver_session::{Session, copies_of_done, copies_of_failure};
 use dsql_value::{Memory, Param};
 use std::alloc::Global;
 
-/// One connection: its cursors, and how many faults it answered.
+const ONLY_QUERIES: &str = "fixed: only queries are answered";
+
+const NO_PARAMETERS: &str = "fixed: a query takes no parameters";
+
+const NO_SUCH_CURSOR: &str = "fixed: no such cursor";
+
+const NUMBERS_SPENT: &str = "fixed: the numbers of cursors are spent";
+
+/// One connection: its session, and how many faults it answered.
 #[derive(Drop)]
 pub(crate) struct FixedWire {
     alloc: Global,
-    cursors: Cursors,
+    session: Session,
     faults: u64,
 }
 
 impl FixedWire {
     /// Returns a connection that was opened and did nothing yet.
     pub(crate) fn new(alloc: Global) -> FixedWire
-        ensures cursors { result.cursors ≡ no_cursors }
+        ensures session { result.session ≡ new_session }
     {
         FixedWire {
             alloc,
-            cursors: Cursors::new(alloc),
+            session: Session::new(alloc),
             faults: 0,
         }
     }
 }
 
 /// Queries a text. The answer is a refusal if there are parameters.
-fn ask(alloc: Global, cursors: &mut Cursors, params: &[Param]) -> Result<Answered, Memory>
-    ensures answer { IfOk result (λ answered. answered ≡ twice (queried cursors.old params.now).answer) }
-    ensures cursors { OnOk result (cursors.new ≡ (queried cursors.old params.now).cursors) }
-    ensures stays { OnErr result (cursors.new ≡ cursors.old) }
+fn ask(alloc: Global, session: &mut Session, params: &[Param]) -> Result<Answered, Memory>
+    ensures served { IfOk result (λ answered. Keeps (queried session.old params.now) answered session.new) }
+    ensures stays { OnErr result (session.new ≡ session.old) }
 {
-    match params {
-        [] => cursors.open(alloc),
-        _ => refusal(alloc, NO_PARAMETERS),
+    if !params.is_empty() {
+        return copies_of_failure(alloc, NO_PARAMETERS);
     }
+    let table = table(alloc)?;
+    session.open(alloc, table, NUMBERS_SPENT)
 }
 
-/// Answers a call as `effect` says. After an error the cursors are as they were.
-fn answer(alloc: Global, cursors: &mut Cursors, call: &DriverCall) -> Result<Answered, Memory>
-    ensures answer { IfOk result (λ answered. answered ≡ twice (effect cursors.old call.now).answer) }
-    ensures cursors { OnOk result (cursors.new ≡ (effect cursors.old call.now).cursors) }
-    ensures stays { OnErr result (cursors.new ≡ cursors.old) }
-    ensures sound { are_within cursors.old.last cursors.old.live ≡ true }
+/// Answers a call as `effect` says. After an error the session is as it was.
+fn answer(alloc: Global, session: &mut Session, call: &DriverCall) -> Result<Answered, Memory>
+    ensures served { IfOk result (λ answered. Keeps (effect session.old call.now) answered session.new) }
+    ensures stays { OnErr result (session.new ≡ session.old) }
+    ensures sound { IsSound session.old }
 {
-    cursors.vouch();
+    session.vouch();
     match call {
         DriverCall::Connect
         | DriverCall::Reset
         | DriverCall::Valid
         | DriverCall::Ping
-        | DriverCall::Shut => Ok(done()),
-        DriverCall::Query(Input::Text(_), params) => ask(alloc, cursors, params.as_slice()),
-        DriverCall::Next(rows) => cursors.take_row(alloc, *rows),
-        DriverCall::CloseRows(rows) => {
-            cursors.close(*rows);
-            Ok(done())
-        }
+        | DriverCall::Shut => Ok(copies_of_done()),
+        DriverCall::Query(Input::Text(_), params) => ask(alloc, session, params.as_slice()),
+        DriverCall::Next(rows) => session.take_row(alloc, *rows, NO_SUCH_CURSOR),
+        DriverCall::CloseRows(rows) => session.close_rows(alloc, *rows, NO_SUCH_CURSOR),
         DriverCall::Prepare(_)
         | DriverCall::CloseStmt(_)
         | DriverCall::Exec(_, _)
         | DriverCall::Query(Input::Handle(_), _)
         | DriverCall::Begin { .. }
         | DriverCall::Commit
-        | DriverCall::Rollback => refusal(alloc, ONLY_QUERIES),
+        | DriverCall::Rollback => copies_of_failure(alloc, ONLY_QUERIES),
     }
 }
 
@@ -91,18 +96,21 @@ impl Wire for FixedWire {
 
     ghost faults = { λ w. w.faults };
 
-    // The wire gives no handle.
-    ghost handles = { λ _. [] };
+    // The wire gives no handle, but its session could.
+    ghost handles = { λ w. handles_of w.session };
 
-    ghost cursors = { λ w. live_cursors w.cursors };
+    ghost cursors = { λ w. cursors_of w.session };
 
     fn call(&mut self, call: &DriverCall) -> Answered {
-        match answer(self.alloc, &mut self.cursors, call) {
+        match answer(self.alloc, &mut self.session, call) {
             Ok(answered) => {
                 self.faults = faults_after(self.faults, &answered.answer);
                 answered
             }
-            Err(Memory) => no_memory(),
+            Err(Memory) => Answered {
+                answer: DriverAnswer::Memory,
+                copy: DriverAnswer::Memory,
+            },
         }
     }
 

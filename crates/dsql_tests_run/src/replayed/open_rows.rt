@@ -1,9 +1,9 @@
 //! Scripts of queries that hand out rows, over a driver with faults, each with its report, by the rules of the
 //! layer.
 
-pub(super) const REPORTS: &[(&str, &str)] = &[
-    // The close of the cursor fails. The call that closes the rows replies with that fault. The rows themselves
-    // keep no fault.
+use super::Case;
+
+pub(super) const REPORTS: &[Case] = &[
     (
         r#"caps fast_exec fast_query resetter validator
 c1 query r db ["GET a"]
@@ -22,7 +22,11 @@ c1 err r
 ["heard",1,2,"call:1",2,0,["next",1],["row",[1]]]
 ["reply",2,["ok",true]]
 ["enter",1,3,"rowsclose r"]
-["heard",1,2,"call:1",3,0,["close_rows",1],["fail","boom"]]
+"#,
+        &[
+            // The close of the cursor fails. The call that closes the rows replies with that fault. The rows themselves
+            // keep no fault.
+            r#"["heard",1,2,"call:1",3,0,["close_rows",1],["fail","boom"]]
 ["heard",1,2,"call:1",3,0,["valid"],["done"]]
 ["back",1]
 ["reply",3,["err","driver","boom"]]
@@ -33,27 +37,8 @@ c1 err r
 ["heard",1,3,"house",0,0,["shut"],["done"]]
 ["gone",1]
 "#,
-    ),
-    // The driver answers the close of the cursor with bad.
-    (
-        r#"caps fast_exec fast_query resetter validator
-c1 query r db ["GET a"]
-c1 next r
-c1 rowsclose r
-c1 err r
-"#,
-        r#"["run",1,["fast_exec","fast_query","resetter","validator"]]
-["enter",1,1,"query r db",["GET a"]]
-["open",1,1]
-["heard",1,1,"house",0,0,["connect"],["done"]]
-["lend",1,2,"call:1"]
-["heard",1,2,"call:1",1,0,["query","GET a",[]],["cursor",1,["value"]]]
-["reply",1,["ok","rows",["value"]]]
-["enter",1,2,"next r"]
-["heard",1,2,"call:1",2,0,["next",1],["row",[1]]]
-["reply",2,["ok",true]]
-["enter",1,3,"rowsclose r"]
-["heard",1,2,"call:1",3,0,["close_rows",1],["bad"]]
+            // The driver answers the close of the cursor with bad.
+            r#"["heard",1,2,"call:1",3,0,["close_rows",1],["bad"]]
 ["close",1,"bad"]
 ["reply",3,["err","bad_conn",1,"driver: bad connection"]]
 ["heard",1,3,"house",0,0,["shut"],["done"]]
@@ -62,8 +47,8 @@ c1 err r
 ["reply",4,["ok"]]
 ["ended"]
 "#,
+        ],
     ),
-    // The handle that was prepared for the query lives as long as its rows.
     (
         r#"caps fast_exec fast_query resetter validator
 c1 query r db ["GET ?","a"]
@@ -75,7 +60,10 @@ c1 rowsclose r
 ["open",1,1]
 ["heard",1,1,"house",0,0,["connect"],["done"]]
 ["lend",1,2,"call:1"]
-["heard",1,2,"call:1",1,0,["query","GET ?",["a"]],["skip"]]
+"#,
+        &[
+            // The handle that was prepared for the query lives as long as its rows.
+            r#"["heard",1,2,"call:1",1,0,["query","GET ?",["a"]],["skip"]]
 ["heard",1,2,"call:1",1,0,["prepare","GET ?"],["prepared",1,1]]
 ["heard",1,2,"call:1",1,0,["query",1,["a"]],["cursor",1,["value"]]]
 ["reply",1,["ok","rows",["value"]]]
@@ -93,5 +81,6 @@ c1 rowsclose r
 ["heard",1,3,"house",0,0,["shut"],["done"]]
 ["gone",1]
 "#,
+        ],
     ),
 ];

@@ -1,9 +1,9 @@
 //! Scripts of calls that prepare their text and read one row, over a driver with faults. Each has its report, by the
 //! rules of the layer.
 
-pub(super) const REPORTS: &[(&str, &str)] = &[
-    // The driver skips the text, so the layer prepares it and queries its handle. It closes the cursor before
-    // the handle.
+use super::Case;
+
+pub(super) const REPORTS: &[Case] = &[
     (
         r#"caps fast_exec fast_query resetter validator
 c1 one db i64 ["GET ?","a"]
@@ -14,7 +14,11 @@ c1 one db i64 ["GET ?","a"]
 ["heard",1,1,"house",0,0,["connect"],["done"]]
 ["lend",1,2,"call:1"]
 ["heard",1,2,"call:1",1,0,["query","GET ?",["a"]],["skip"]]
-["heard",1,2,"call:1",1,0,["prepare","GET ?"],["prepared",1,1]]
+"#,
+        &[
+            // The driver skips the text, so the layer prepares it and queries its handle. It closes the cursor before
+            // the handle.
+            r#"["heard",1,2,"call:1",1,0,["prepare","GET ?"],["prepared",1,1]]
 ["heard",1,2,"call:1",1,0,["query",1,["a"]],["cursor",1,["value"]]]
 ["heard",1,2,"call:1",1,0,["next",1],["row",[1]]]
 ["heard",1,2,"call:1",1,0,["close_rows",1],["done"]]
@@ -27,19 +31,8 @@ c1 one db i64 ["GET ?","a"]
 ["heard",1,3,"house",0,0,["shut"],["done"]]
 ["gone",1]
 "#,
-    ),
-    // The driver answers the close of the handle's cursor with bad.
-    (
-        r#"caps fast_exec fast_query resetter validator
-c1 one db i64 ["GET ?","a"]
-"#,
-        r#"["run",1,["fast_exec","fast_query","resetter","validator"]]
-["enter",1,1,"one db i64",["GET ?","a"]]
-["open",1,1]
-["heard",1,1,"house",0,0,["connect"],["done"]]
-["lend",1,2,"call:1"]
-["heard",1,2,"call:1",1,0,["query","GET ?",["a"]],["skip"]]
-["heard",1,2,"call:1",1,0,["prepare","GET ?"],["prepared",1,1]]
+            // The driver answers the close of the handle's cursor with bad.
+            r#"["heard",1,2,"call:1",1,0,["prepare","GET ?"],["prepared",1,1]]
 ["heard",1,2,"call:1",1,0,["query",1,["a"]],["cursor",1,["value"]]]
 ["heard",1,2,"call:1",1,0,["next",1],["row",[1]]]
 ["heard",1,2,"call:1",1,0,["close_rows",1],["bad"]]
@@ -49,20 +42,9 @@ c1 one db i64 ["GET ?","a"]
 ["gone",1]
 ["ended"]
 "#,
-    ),
-    // The driver answers the close of the handle with bad. The row was read and its cursor closed, so its reply
-    // stays.
-    (
-        r#"caps fast_exec fast_query resetter validator
-c1 one db i64 ["GET ?","a"]
-"#,
-        r#"["run",1,["fast_exec","fast_query","resetter","validator"]]
-["enter",1,1,"one db i64",["GET ?","a"]]
-["open",1,1]
-["heard",1,1,"house",0,0,["connect"],["done"]]
-["lend",1,2,"call:1"]
-["heard",1,2,"call:1",1,0,["query","GET ?",["a"]],["skip"]]
-["heard",1,2,"call:1",1,0,["prepare","GET ?"],["prepared",1,1]]
+            // The driver answers the close of the handle with bad. The row was read and its cursor closed, so its reply
+            // stays.
+            r#"["heard",1,2,"call:1",1,0,["prepare","GET ?"],["prepared",1,1]]
 ["heard",1,2,"call:1",1,0,["query",1,["a"]],["cursor",1,["value"]]]
 ["heard",1,2,"call:1",1,0,["next",1],["row",[1]]]
 ["heard",1,2,"call:1",1,0,["close_rows",1],["done"]]
@@ -73,19 +55,8 @@ c1 one db i64 ["GET ?","a"]
 ["gone",1]
 ["ended"]
 "#,
-    ),
-    // The statement wants two inputs, so the layer queries nothing.
-    (
-        r#"caps fast_exec fast_query resetter validator
-c1 one db i64 ["GET ?","a"]
-"#,
-        r#"["run",1,["fast_exec","fast_query","resetter","validator"]]
-["enter",1,1,"one db i64",["GET ?","a"]]
-["open",1,1]
-["heard",1,1,"house",0,0,["connect"],["done"]]
-["lend",1,2,"call:1"]
-["heard",1,2,"call:1",1,0,["query","GET ?",["a"]],["skip"]]
-["heard",1,2,"call:1",1,0,["prepare","GET ?"],["prepared",1,2]]
+            // The statement wants two inputs, so the layer queries nothing.
+            r#"["heard",1,2,"call:1",1,0,["prepare","GET ?"],["prepared",1,2]]
 ["heard",1,2,"call:1",1,0,["close_stmt",1],["done"]]
 ["heard",1,2,"call:1",1,0,["valid"],["done"]]
 ["back",1]
@@ -95,8 +66,8 @@ c1 one db i64 ["GET ?","a"]
 ["heard",1,3,"house",0,0,["shut"],["done"]]
 ["gone",1]
 "#,
+        ],
     ),
-    // A driver that has neither the fast path nor a test is asked for neither.
     (
         r#"caps
 c1 one db i64 ["GET ?","a"]
@@ -106,7 +77,10 @@ c1 one db i64 ["GET ?","a"]
 ["open",1,1]
 ["heard",1,1,"house",0,0,["connect"],["done"]]
 ["lend",1,2,"call:1"]
-["heard",1,2,"call:1",1,0,["prepare","GET ?"],["prepared",1,1]]
+"#,
+        &[
+            // A driver that has neither the fast path nor a test is asked for neither.
+            r#"["heard",1,2,"call:1",1,0,["prepare","GET ?"],["prepared",1,1]]
 ["heard",1,2,"call:1",1,0,["query",1,["a"]],["cursor",1,["value"]]]
 ["heard",1,2,"call:1",1,0,["next",1],["row",[1]]]
 ["heard",1,2,"call:1",1,0,["close_rows",1],["done"]]
@@ -118,5 +92,6 @@ c1 one db i64 ["GET ?","a"]
 ["heard",1,3,"house",0,0,["shut"],["done"]]
 ["gone",1]
 "#,
+        ],
     ),
 ];

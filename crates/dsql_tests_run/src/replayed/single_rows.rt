@@ -1,7 +1,8 @@
 //! Scripts of calls that read one row, over a driver with faults, each with its report, by the rules of the layer.
 
-pub(super) const REPORTS: &[(&str, &str)] = &[
-    // A row is read.
+use super::Case;
+
+pub(super) const REPORTS: &[Case] = &[
     (
         r#"caps fast_exec fast_query resetter validator
 c1 one db i64 ["GET a"]
@@ -13,7 +14,10 @@ c1 one db i64 ["GET a"]
 ["lend",1,2,"call:1"]
 ["heard",1,2,"call:1",1,0,["query","GET a",[]],["cursor",1,["value"]]]
 ["heard",1,2,"call:1",1,0,["next",1],["row",[1]]]
-["heard",1,2,"call:1",1,0,["close_rows",1],["done"]]
+"#,
+        &[
+            // A row is read.
+            r#"["heard",1,2,"call:1",1,0,["close_rows",1],["done"]]
 ["heard",1,2,"call:1",1,0,["valid"],["done"]]
 ["back",1]
 ["reply",1,["ok","cells",[1]]]
@@ -22,20 +26,8 @@ c1 one db i64 ["GET a"]
 ["heard",1,3,"house",0,0,["shut"],["done"]]
 ["gone",1]
 "#,
-    ),
-    // The close of the cursor fails. The row was read, but the call succeeds only after its cursor is closed.
-    (
-        r#"caps fast_exec fast_query resetter validator
-c1 one db i64 ["GET a"]
-"#,
-        r#"["run",1,["fast_exec","fast_query","resetter","validator"]]
-["enter",1,1,"one db i64",["GET a"]]
-["open",1,1]
-["heard",1,1,"house",0,0,["connect"],["done"]]
-["lend",1,2,"call:1"]
-["heard",1,2,"call:1",1,0,["query","GET a",[]],["cursor",1,["value"]]]
-["heard",1,2,"call:1",1,0,["next",1],["row",[1]]]
-["heard",1,2,"call:1",1,0,["close_rows",1],["fail","boom"]]
+            // The close of the cursor fails. The row was read, but the call succeeds only after its cursor is closed.
+            r#"["heard",1,2,"call:1",1,0,["close_rows",1],["fail","boom"]]
 ["heard",1,2,"call:1",1,0,["valid"],["done"]]
 ["back",1]
 ["reply",1,["err","driver","boom"]]
@@ -44,28 +36,25 @@ c1 one db i64 ["GET a"]
 ["heard",1,3,"house",0,0,["shut"],["done"]]
 ["gone",1]
 "#,
-    ),
-    // The driver answers the close of the cursor with bad.
-    (
-        r#"caps fast_exec fast_query resetter validator
-c1 one db i64 ["GET a"]
-"#,
-        r#"["run",1,["fast_exec","fast_query","resetter","validator"]]
-["enter",1,1,"one db i64",["GET a"]]
-["open",1,1]
-["heard",1,1,"house",0,0,["connect"],["done"]]
-["lend",1,2,"call:1"]
-["heard",1,2,"call:1",1,0,["query","GET a",[]],["cursor",1,["value"]]]
-["heard",1,2,"call:1",1,0,["next",1],["row",[1]]]
-["heard",1,2,"call:1",1,0,["close_rows",1],["bad"]]
+            // The driver answers the close of the cursor with bad.
+            r#"["heard",1,2,"call:1",1,0,["close_rows",1],["bad"]]
 ["close",1,"bad"]
 ["reply",1,["err","bad_conn",1,"driver: bad connection"]]
 ["heard",1,3,"house",0,0,["shut"],["done"]]
 ["gone",1]
 ["ended"]
 "#,
+            // The connection fails its test. The row was read, so its reply stays.
+            r#"["heard",1,2,"call:1",1,0,["close_rows",1],["done"]]
+["heard",1,2,"call:1",1,0,["valid"],["invalid"]]
+["close",1,"invalid"]
+["reply",1,["ok","cells",[1]]]
+["heard",1,3,"house",0,0,["shut"],["done"]]
+["gone",1]
+["ended"]
+"#,
+        ],
     ),
-    // The row has too few values, and the close of the cursor fails. The reply stays what became of the row.
     (
         r#"caps fast_exec fast_query resetter validator
 c1 one db i64,i64 ["GET a"]
@@ -75,7 +64,10 @@ c1 one db i64,i64 ["GET a"]
 ["open",1,1]
 ["heard",1,1,"house",0,0,["connect"],["done"]]
 ["lend",1,2,"call:1"]
-["heard",1,2,"call:1",1,0,["query","GET a",[]],["cursor",1,["value"]]]
+"#,
+        &[
+            // The row has too few values, and the close of the cursor fails. The reply stays what became of the row.
+            r#"["heard",1,2,"call:1",1,0,["query","GET a",[]],["cursor",1,["value"]]]
 ["heard",1,2,"call:1",1,0,["next",1],["row",[1]]]
 ["heard",1,2,"call:1",1,0,["close_rows",1],["fail","boom"]]
 ["heard",1,2,"call:1",1,0,["valid"],["done"]]
@@ -86,26 +78,6 @@ c1 one db i64,i64 ["GET a"]
 ["heard",1,3,"house",0,0,["shut"],["done"]]
 ["gone",1]
 "#,
-    ),
-    // The connection fails its test. The row was read, so its reply stays.
-    (
-        r#"caps fast_exec fast_query resetter validator
-c1 one db i64 ["GET a"]
-"#,
-        r#"["run",1,["fast_exec","fast_query","resetter","validator"]]
-["enter",1,1,"one db i64",["GET a"]]
-["open",1,1]
-["heard",1,1,"house",0,0,["connect"],["done"]]
-["lend",1,2,"call:1"]
-["heard",1,2,"call:1",1,0,["query","GET a",[]],["cursor",1,["value"]]]
-["heard",1,2,"call:1",1,0,["next",1],["row",[1]]]
-["heard",1,2,"call:1",1,0,["close_rows",1],["done"]]
-["heard",1,2,"call:1",1,0,["valid"],["invalid"]]
-["close",1,"invalid"]
-["reply",1,["ok","cells",[1]]]
-["heard",1,3,"house",0,0,["shut"],["done"]]
-["gone",1]
-["ended"]
-"#,
+        ],
     ),
 ];

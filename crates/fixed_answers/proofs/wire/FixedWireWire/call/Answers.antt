@@ -1,7 +1,11 @@
-use Rattle.fixed_answers.proofs.AnswerLemmas.{effect-IsLawful}
+use Rattle.fixed_answers.proofs.AnswerLemmas.{kept-IsLawful}
 use Rattle.fixed_answers.proofs.wire.FixedWireWire.call.Goals as goal
 
+pub returns-in-Ok-clause-fitting : goal.returns-in-Ok-clause-fitting
+returns-in-Ok-clause-fitting c = (kept-IsLawful _ _ _ _ c.answer.ensures.sound c.in-Ok.ensures.served).fits
+
+pub returns-in-Ok-clause-handles : goal.returns-in-Ok-clause-handles
+returns-in-Ok-clause-handles c = (kept-IsLawful _ _ _ _ c.answer.ensures.sound c.in-Ok.ensures.served).handles
+
 pub returns-in-Ok-clause-cursors : goal.returns-in-Ok-clause-cursors
-returns-in-Ok-clause-cursors c =
-    let law = effect-IsLawful c.args.self.now.cursors c.args.call.now c.answer.ensures.sound in
-    rw (c.in-Ok.ensures.answer, c.in-Ok.ensures.cursors) law.cursors
+returns-in-Ok-clause-cursors c = (kept-IsLawful _ _ _ _ c.answer.ensures.sound c.in-Ok.ensures.served).cursors

@@ -1,0 +1,4 @@
+pub mod CursorLemmas
+pub mod LawfulLemmas
+pub mod NumberLemmas
+pub mod SessionLemmas

@@ -1,0 +1,4 @@
+pub mod Calls
+pub mod Copies
+pub mod Rows
+pub mod Session
