@@ -1,3 +1,5 @@
+pub mod ConnectionLemmas
+pub mod Crossing
 pub mod HolderLemmas
 pub mod RowLemmas
 pub mod ServedLemmas

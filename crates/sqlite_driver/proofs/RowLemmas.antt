@@ -1,6 +1,6 @@
 -- Rows that are shown value by value. The argument is by induction on the values.
-use Rattle.std.proofs.Common.{◌≡◌, ◌+◌, ◌<◌, ℕ, List, [], ◌∷◌, ◌++◌, length, take, get_or, ap, sym}
-use Rattle.std.proofs.lemmas.List.{take_more, take_all}
+use Rattle.std.proofs.Common.{◌+◌, ◌<◌, ℕ, List, [], ◌∷◌, ◌++◌, length, take, get_or}
+use Rattle.std.proofs.lemmas.List.{take_more}
 use Rattle.sqlite_driver.specs.Values.{AllMatch}
 
 -- Lists that match still do if both get one more item and these match.

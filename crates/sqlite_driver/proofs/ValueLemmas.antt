@@ -5,7 +5,6 @@ use Rattle.dsql_value.specs.declared.value.Value.{Value}
 use Rattle.dsql_value.specs.declared.value.Value.TheVariants.{Nil}
 use Rattle.sqlite.specs.Values.{bound, bound_value}
 use Rattle.sqlite_value.specs.Value.{owned}
-use Rattle.sqlite_value.specs.declared.value.Value.{Value as SqlValue}
 use Rattle.sqlite_value.specs.declared.value.ValueRef.{ValueRef}
 use Rattle.sqlite_driver.specs.Values.{sql_value, sql_values}
 

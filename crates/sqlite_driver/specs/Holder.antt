@@ -1,9 +1,11 @@
 -- The wire that holds the database: its transaction is open.
-use Rattle.std.specs.Prelude.{ℕ, ◌==◌, Bool, true, false, not, Option, Some, None, codes}
+use Rattle.std.specs.Prelude.{◌≡◌, ◌⊎◌, ℕ, ◌==◌, Bool, true, false, not, Option, Some, None, codes}
 use Rattle.dsql_driver.specs.declared.answer.DriverAnswer.{DriverAnswer}
 use Rattle.dsql_driver.specs.declared.answer.DriverAnswer.TheVariants.{Fail}
 use Rattle.dsql_driver.specs.declared.call.DriverCall.{DriverCall}
 use Rattle.dsql_driver.specs.declared.call.DriverCall.TheVariants.{Reset, Prepare, Exec, Query, Begin, Commit, Rollback, Shut}
+use Rattle.sqlite_driver.specs.Connection.{in_transaction}
+use Rattle.sqlite_driver.specs.declared.connection.SqliteConnection.{SqliteConnection}
 
 -- Is true if this wire holds the database.
 abbrev pub is_held_by : ℕ → Option ℕ → Bool
@@ -14,6 +16,15 @@ is_held_by who (Some holder) = holder == who
 abbrev pub is_held_by_other : ℕ → Option ℕ → Bool
 is_held_by_other who None = false
 is_held_by_other who (Some holder) = not (holder == who)
+
+-- Is true if a wire holds the database, unless no transaction is open.
+abbrev pub is_guarded : SqliteConnection → Option ℕ → Bool
+is_guarded connection None = not (in_transaction connection)
+is_guarded connection (Some holder) = true
+
+-- Holds if the same wire holds the database as before, or none, or this one.
+abbrev pub MayHold : ℕ → Option ℕ → Option ℕ → Type 0
+MayHold who old new = (new ≡ old) ⊎ ((new ≡ None) ⊎ (new ≡ Some who))
 
 -- Is true if the call reads or writes the database.
 abbrev pub needs_database : DriverCall → Bool

@@ -7,9 +7,9 @@ use Rattle.dsql_driver.specs.declared.call.DriverCall.{DriverCall}
 use Rattle.dsql_driver.specs.declared.wire.Answered.{Answered}
 use Rattle.dsql_mem_plans.specs.Fleets.{FleetState}
 use Rattle.dsql_mem_plans.specs.WireLogs.{WireLogState, new_wire_log, fault_due, with_answer, with_planned, with_want}
-use Rattle.dsql_mem_session.specs.Copies.{copies_of}
+use Rattle.dsql_driver_session.specs.Copies.{copies_of}
 use Rattle.sqlite_driver.specs.Served.{Serves}
-use Rattle.sqlite_session.specs.Session.{SessionState, new_session}
+use Rattle.dsql_driver_session.specs.Session.{SessionState, new_session}
 
 -- A wire: its session, and its report with its planned faults. All wires of a fleet share the database, so it is no
 -- part of a wire.

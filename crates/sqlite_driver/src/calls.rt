@@ -1,16 +1,23 @@
 //! What each driver call does to a session and the database.
-ghost use Rattle.std.specs.Prelude.{◌≡◌, true, false, IsOk, IfOk, OnErr};
+ghost use Rattle.std.specs.Prelude.{◌≡◌, true, false, codes, option_map, IsOk, IfOk, OnErr};
 ghost use Rattle.dsql_driver.specs.Fits.{is_done};
-ghost use Rattle.sqlite_driver.specs.Holder.{ends_transaction, is_held_by, is_held_by_other, locked, needs_database};
-ghost use Rattle.sqlite_driver.specs.Served.{IsTwice, Serves, ServesPrepare, ServesQuery, is_ended, is_executed, is_fail};
+ghost use Rattle.sqlite_driver.specs.Holder.{MayHold, ends_transaction, is_held_by, is_held_by_other, needs_database};
+ghost use Rattle.sqlite_driver.specs.Served.{IsTwice, Serves, ServesPrepare, ServesQuery, is_done_or_bad, is_done_or_fail, is_executed, is_fail};
+ghost use Rattle.sqlite_driver.specs.Connection.{Issues, RollsBack};
+ghost use Rattle.sqlite_driver.specs.Used.{Begins, Does, Execs, LeavesAlone, Prepares, Queries, Releases, Uses, input_text};
 
 use crate::database::Database;
 use crate::failure::Failure;
 use dsql_driver::{Answered, DriverAnswer, DriverCall, Input, Level};
-use dsql_mem_session::{copies_of_done, copies_of_failure};
+use dsql_driver_session::{Session, copies_of_done, copies_of_failure, copies_of_result};
 use dsql_value::{Memory, Param, Txt};
-use sqlite_session::{NO_SUCH_HANDLE, Session};
 use std::alloc::Global;
+
+const NO_SUCH_HANDLE: &str = "sqlite: no such handle";
+
+const NO_SUCH_CURSOR: &str = "sqlite: no such cursor";
+
+const NUMBERS_SPENT: &str = "sqlite: numbers spent";
 
 const LOCKED: &str = "database is locked";
 
@@ -30,18 +37,17 @@ pub(crate) fn carry_out(
     call: &DriverCall,
 ) -> Result<Answered, Memory>
     ensures served { IfOk result (λ answered. Serves call.now answered session.old session.new) }
+    ensures used { IfOk result (λ answered. Uses who call.now answered.answer session.old session.new
+        database.old database.new) }
     ensures stays { OnErr result (session.new ≡ session.old) }
-    ensures locked { needs_database call.now ≡ true → is_held_by_other who database.old ≡ true
-        → IfOk result (λ answered. answered.answer ≡ locked) }
-    ensures held { is_held_by_other who database.old ≡ true → database.new ≡ database.old }
-    ensures over { ends_transaction call.now ≡ true
-        → IfOk result (λ answered. is_done answered.answer ≡ true → is_held_by who database.new ≡ false) }
+    ensures undone { OnErr result (LeavesAlone database.old database.new) }
 {
     if needs_database(call) && database.is_held_by_other(who) {
         let answered = copies_of_failure(alloc, LOCKED)?;
         return Ok(answered);
     }
-    serve(alloc, session, database, who, call)
+    let answered = serve(alloc, session, database, who, call)?;
+    Ok(answered)
 }
 
 /// Returns true if the call reads or writes the database.
@@ -65,18 +71,22 @@ fn serve(
     who: u32,
     call: &DriverCall,
 ) -> Result<Answered, Memory>
-    requires { needs_database call.now ≡ true → is_held_by_other who database.old ≡ false }
+    requires { needs_database call.now ≡ true → is_held_by_other who database.old.holder ≡ false }
     ensures served { IfOk result (λ answered. Serves call.now answered session.old session.new) }
-    ensures stays { OnErr result (session.new ≡ session.old) }
-    ensures held { is_held_by_other who database.old ≡ true → database.new ≡ database.old }
+    ensures does { IfOk result (λ answered. Does who call.now answered.answer session.old session.new
+        database.old database.new) }
+    ensures held { is_held_by_other who database.old.holder ≡ true → database.new ≡ database.old }
     ensures over { ends_transaction call.now ≡ true
-        → IfOk result (λ answered. is_done answered.answer ≡ true → is_held_by who database.new ≡ false) }
+        → IfOk result (λ answered. is_done answered.answer ≡ true → is_held_by who database.new.holder ≡ false) }
+    ensures holds { MayHold who database.old.holder database.new.holder }
+    ensures stays { OnErr result (session.new ≡ session.old) }
+    ensures undone { OnErr result (LeavesAlone database.old database.new) }
 {
     match call {
         DriverCall::Connect | DriverCall::Valid | DriverCall::Ping => Ok(copies_of_done()),
         DriverCall::Reset | DriverCall::Shut => Ok(release(database, who)),
         DriverCall::Prepare(text) => prepare(alloc, session, database, who, text),
-        DriverCall::CloseStmt(handle) => session.close(alloc, *handle),
+        DriverCall::CloseStmt(handle) => session.close(alloc, *handle, NO_SUCH_HANDLE),
         DriverCall::Exec(input, params) => {
             let answered = execute(alloc, session, database, who, input, params.as_slice())?;
             Ok(answered)
@@ -84,8 +94,8 @@ fn serve(
         DriverCall::Query(input, params) => {
             query(alloc, session, database, who, input, params.as_slice())
         }
-        DriverCall::Next(rows) => session.take_row(alloc, *rows),
-        DriverCall::CloseRows(rows) => session.close_rows(alloc, *rows),
+        DriverCall::Next(rows) => session.take_row(alloc, *rows, NO_SUCH_CURSOR),
+        DriverCall::CloseRows(rows) => session.close_rows(alloc, *rows, NO_SUCH_CURSOR),
         DriverCall::Begin { level, read_only } => {
             let answered = begin(alloc, database, who, *level, *read_only)?;
             Ok(answered)
@@ -110,13 +120,16 @@ fn prepare(
     text: &Txt,
 ) -> Result<Answered, Memory>
     ensures served { IfOk result (λ answered. ServesPrepare text.now answered session.old session.new) }
+    ensures prepares { IfOk result (λ answered. is_fail answered.answer ≡ false
+        → Prepares text.now answered.answer session.old database.old.connection database.new.connection) }
+    ensures holder { database.new.holder ≡ database.old.holder }
     ensures stays { OnErr result (session.new ≡ session.old) }
-    ensures database { database.new ≡ database.old }
+    ensures undone { OnErr result (LeavesAlone database.old database.new) }
 {
     let spare = refuse(alloc, OUT_OF_MEMORY)?;
     match database.inputs(who, text.as_str()) {
         Ok(inputs) => {
-            let answered = session.prepare(alloc, text, inputs)?;
+            let answered = session.prepare(alloc, text, inputs, NUMBERS_SPENT)?;
             Ok(answered)
         }
         Err(failure) => Ok(failure.answer_or(alloc, spare)),
@@ -132,7 +145,11 @@ fn execute(
     input: &Input,
     params: &[Param],
 ) -> Result<Answered, Memory>
-    ensures { IfOk result (IsTwice is_executed) }
+    ensures answer { IfOk result (IsTwice is_executed) }
+    ensures execs { IfOk result (λ answered. is_fail answered.answer ≡ false
+        → Execs input.now params.now answered.answer session.now database.old.connection database.new.connection) }
+    ensures holds { MayHold who database.old.holder database.new.holder }
+    ensures undone { OnErr result (database.new ≡ database.old) }
 {
     let Some(text) = text_of(session, input) else {
         let answered = refuse(alloc, NO_SUCH_HANDLE)?;
@@ -156,7 +173,12 @@ fn query(
     params: &[Param],
 ) -> Result<Answered, Memory>
     ensures served { IfOk result (λ answered. ServesQuery answered session.old session.new) }
+    ensures queries { IfOk result (λ answered. is_fail answered.answer ≡ false
+        → Queries input.now params.now answered.answer session.old session.new
+        database.old.connection database.new.connection) }
+    ensures holds { MayHold who database.old.holder database.new.holder }
     ensures stays { OnErr result (session.new ≡ session.old) }
+    ensures undone { OnErr result (database.new ≡ database.old) }
 {
     let Some(text) = text_of(session, input) else {
         let answered = refuse(alloc, NO_SUCH_HANDLE)?;
@@ -164,7 +186,7 @@ fn query(
     };
     let spare = refuse(alloc, OUT_OF_MEMORY)?;
     match database.query(alloc, who, text, params) {
-        Ok(set) => match session.open(alloc, set) {
+        Ok(set) => match session.open(alloc, set, NUMBERS_SPENT) {
             Ok(answered) => Ok(answered),
             Err(Memory) => Ok(spare),
         },
@@ -173,7 +195,9 @@ fn query(
 }
 
 /// Returns the text that is to be run, or `None` if its handle isn't live.
-fn text_of<'a>(session: &'a Session, input: &'a Input) -> Option<&'a str> {
+fn text_of<'a>(session: &'a Session, input: &'a Input) -> Option<&'a str>
+    ensures { option_map (λ text. text.now) result ≡ input_text input.now session.now }
+{
     match input {
         Input::Text(text) => Some(text.as_str()),
         Input::Handle(handle) => session.text(*handle),
@@ -188,7 +212,11 @@ fn begin(
     level: Level,
     read_only: bool,
 ) -> Result<Answered, Memory>
-    ensures { IfOk result (IsTwice is_ended) }
+    ensures answer { IfOk result (IsTwice is_done_or_fail) }
+    ensures begins { IfOk result (λ answered. is_fail answered.answer ≡ false
+        → Begins level read_only database.old.connection database.new.connection) }
+    ensures holds { MayHold who database.old.holder database.new.holder }
+    ensures undone { OnErr result (database.new ≡ database.old) }
 {
     if !matches!(level, Level::Default | Level::Serializable) {
         let answered = refuse(alloc, NO_SUCH_LEVEL)?;
@@ -199,34 +227,49 @@ fn begin(
         return Ok(answered);
     }
     let spare = refuse(alloc, OUT_OF_MEMORY)?;
-    Ok(done_or(alloc, database.begin(who), spare))
+    let begun = database.begin(who);
+    Ok(done_or(alloc, begun, spare))
 }
 
 /// Commits the wire's transaction.
 fn commit(alloc: Global, database: &mut Database, who: u32) -> Result<Answered, Memory>
-    ensures answer { IfOk result (IsTwice is_ended) }
-    ensures held { is_held_by_other who database.old ≡ true → database.new ≡ database.old }
-    ensures over { IfOk result (λ answered. is_done answered.answer ≡ true → is_held_by who database.new ≡ false) }
+    ensures answer { IfOk result (IsTwice is_done_or_fail) }
+    ensures commits { IfOk result (λ answered. is_fail answered.answer ≡ false
+        → Issues (codes "COMMIT") true database.old.connection database.new.connection) }
+    ensures held { is_held_by_other who database.old.holder ≡ true → database.new ≡ database.old }
+    ensures over { IfOk result (λ answered. is_done answered.answer ≡ true
+        → is_held_by who database.new.holder ≡ false) }
+    ensures holds { MayHold who database.old.holder database.new.holder }
+    ensures undone { OnErr result (database.new ≡ database.old) }
 {
     let spare = refuse(alloc, OUT_OF_MEMORY)?;
-    Ok(done_or(alloc, database.commit(who), spare))
+    let committed = database.commit(who);
+    Ok(done_or(alloc, committed, spare))
 }
 
 /// Rolls back the wire's transaction.
 fn roll_back(alloc: Global, database: &mut Database, who: u32) -> Result<Answered, Memory>
-    ensures answer { IfOk result (IsTwice is_ended) }
-    ensures held { is_held_by_other who database.old ≡ true → database.new ≡ database.old }
-    ensures over { IfOk result (λ answered. is_done answered.answer ≡ true → is_held_by who database.new ≡ false) }
+    ensures answer { IfOk result (IsTwice is_done_or_fail) }
+    ensures rolls_back { IfOk result (λ answered. is_fail answered.answer ≡ false
+        → RollsBack database.old.connection database.new.connection) }
+    ensures held { is_held_by_other who database.old.holder ≡ true → database.new ≡ database.old }
+    ensures over { IfOk result (λ answered. is_done answered.answer ≡ true
+        → is_held_by who database.new.holder ≡ false) }
+    ensures holds { MayHold who database.old.holder database.new.holder }
+    ensures undone { OnErr result (database.new ≡ database.old) }
 {
     let spare = refuse(alloc, OUT_OF_MEMORY)?;
-    Ok(done_or(alloc, database.roll_back(who), spare))
+    let rolled_back = database.roll_back(who);
+    Ok(done_or(alloc, rolled_back, spare))
 }
 
 /// Rolls back the wire's transaction if one is open. If SQLite can't, the answer is Bad, and nothing has been done.
 fn release(database: &mut Database, who: u32) -> Answered
-    ensures answer { IsTwice is_ended result }
-    ensures held { is_held_by_other who database.old ≡ true → database.new ≡ database.old }
-    ensures over { is_done result.answer ≡ true → is_held_by who database.new ≡ false }
+    ensures answer { IsTwice is_done_or_bad result }
+    ensures releases { Releases who result.answer database.old database.new }
+    ensures held { is_held_by_other who database.old.holder ≡ true → database.new ≡ database.old }
+    ensures over { is_done result.answer ≡ true → is_held_by who database.new.holder ≡ false }
+    ensures holds { MayHold who database.old.holder database.new.holder }
 {
     if database.release(who) {
         copies_of_done()
@@ -241,8 +284,9 @@ fn release(database: &mut Database, who: u32) -> Answered
 /// Returns the answer Done, or the one that says what failed. The spare one serves if there is no memory for that.
 fn done_or(alloc: Global, outcome: Result<(), Failure>, spare: Answered) -> Answered
     requires { IsTwice is_fail spare }
-    ensures answer { IsTwice is_ended result }
+    ensures answer { IsTwice is_done_or_fail result }
     ensures done { is_done result.answer ≡ true → IsOk outcome }
+    ensures succeeds { is_fail result.answer ≡ false → IsOk outcome }
 {
     match outcome {
         Ok(()) => copies_of_done(),
@@ -256,14 +300,4 @@ fn refuse(alloc: Global, text: &str) -> Result<Answered, Memory>
 {
     let answered = copies_of_failure(alloc, text)?;
     Ok(answered)
-}
-
-/// Returns the answer of a statement that was executed. It takes no memory.
-fn copies_of_result(last: i64, affected: i64) -> Answered
-    ensures { IsTwice is_executed result }
-{
-    Answered {
-        answer: DriverAnswer::Result { last, affected },
-        copy: DriverAnswer::Result { last, affected },
-    }
 }

@@ -1,36 +1,29 @@
-ghost use Rattle.std.specs.Prelude.{◌≡◌, None, true, false, IfOk, OnOk};
-ghost use Rattle.sqlite_driver.specs.Holder.{is_held_by, is_held_by_other};
+ghost use Rattle.std.specs.Prelude.{◌≡◌, None, true, false, codes, IfOk, OnOk};
+ghost use Rattle.sqlite_driver.specs.Connection.{Compiles, Finds, Issues, RollsBack, Runs, in_transaction};
+ghost use Rattle.sqlite_driver.specs.Holder.{MayHold, is_guarded, is_held_by, is_held_by_other};
 
 use crate::connection::SqliteConnection;
 use crate::failure::Failure;
 use crate::statements::Executed;
+use dsql_driver_session::ResultSet;
 use dsql_value::{Memory, Param};
 use sqlite::{Connection, File, FileStore};
-use sqlite_session::ResultSet;
 use std::alloc::Global;
-use std::marker::Model;
 
 /// One SQLite database with the one connection to it, which all wires share. A wire holds the database from
 /// the begin of its transaction to the end. If a failure ends the transaction, the wire holds the database on until it
-/// commits or rolls back. Contracts see which wire holds it.
+/// commits or rolls back.
 #[derive(Drop)]
 pub(crate) struct Database {
     connection: SqliteConnection,
     holder: Option<u32>,
-}
-
-impl Model for Database {
-    ghost use Rattle.std.specs.Prelude.{ℕ, Option};
-
-    ghost Value = { Option ℕ };
-
-    ghost view = { λ d. d.holder };
+    ghost guarded: { is_guarded connection holder ≡ true },
 }
 
 impl Database {
     /// Returns an empty database in memory, which no wire holds.
     pub(crate) fn in_memory(alloc: Global) -> Result<Database, Memory>
-        ensures { IfOk result (λ database. database ≡ None) }
+        ensures { IfOk result (λ database. database.holder ≡ None) }
     {
         let connection = Connection::open_in_memory(alloc)?;
         Ok(Database {
@@ -39,9 +32,10 @@ impl Database {
         })
     }
 
-    /// Returns the database of a file, which no wire holds.
+    /// Returns the database of a file, which no wire holds, from its connection in autocommit.
     pub(crate) fn in_file(connection: Connection<FileStore<File>>) -> Database
-        ensures { result ≡ None }
+        requires { connection.in_transaction ≡ false }
+        ensures { result.holder ≡ None }
     {
         Database {
             connection: SqliteConnection::File(connection),
@@ -51,7 +45,7 @@ impl Database {
 
     /// Returns true if this wire holds the database.
     fn is_held_by(&self, who: u32) -> bool
-        ensures { result ≡ is_held_by who self.now }
+        ensures { result ≡ is_held_by who self.now.holder }
     {
         match self.holder {
             None => false,
@@ -61,7 +55,7 @@ impl Database {
 
     /// Returns true if another wire than this one holds the database.
     pub(crate) fn is_held_by_other(&self, who: u32) -> bool
-        ensures { result ≡ is_held_by_other who self.now }
+        ensures { result ≡ is_held_by_other who self.now.holder }
     {
         match self.holder {
             None => false,
@@ -71,7 +65,8 @@ impl Database {
 
     /// Compiles a text and returns the number of its inputs.
     pub(crate) fn inputs(&mut self, who: u32, text: &str) -> Result<u16, Failure>
-        ensures { self.new ≡ self.old }
+        ensures compiles { IfOk result (λ inputs. Compiles text.now inputs self.old.connection self.new.connection) }
+        ensures holder { self.new.holder ≡ self.old.holder }
     {
         self.check_usable(who)?;
         self.connection.inputs(text)
@@ -84,10 +79,16 @@ impl Database {
         who: u32,
         text: &str,
         params: &[Param],
-    ) -> Result<Executed, Failure> {
+    ) -> Result<Executed, Failure>
+        ensures runs { IfOk result (λ executed. Runs text.now params.now executed
+            self.old.connection self.new.connection) }
+        ensures holds { MayHold who self.old.holder self.new.holder }
+    {
         self.check_usable(who)?;
         let executed = self.connection.execute(alloc, text, params);
-        self.settle(who, executed.is_ok());
+        self.holder = self
+            .connection
+            .holder_after(who, executed.is_ok(), self.holder);
         executed
     }
 
@@ -98,41 +99,61 @@ impl Database {
         who: u32,
         text: &str,
         params: &[Param],
-    ) -> Result<ResultSet, Failure> {
+    ) -> Result<ResultSet, Failure>
+        ensures finds { IfOk result (λ set. Finds text.now params.now set self.old.connection self.new.connection) }
+        ensures holds { MayHold who self.old.holder self.new.holder }
+    {
         self.check_usable(who)?;
         let set = self.connection.query(alloc, text, params);
-        self.settle(who, set.is_ok());
+        self.holder = self.connection.holder_after(who, set.is_ok(), self.holder);
         set
     }
 
     /// Begins a transaction, with which the wire holds the database.
-    pub(crate) fn begin(&mut self, who: u32) -> Result<(), Failure> {
+    pub(crate) fn begin(&mut self, who: u32) -> Result<(), Failure>
+        ensures begun { OnOk result (Issues (codes "BEGIN") true self.old.connection self.new.connection) }
+        ensures holds { MayHold who self.old.holder self.new.holder }
+    {
         self.check_usable(who)?;
-        let begun = self.connection.execute_plain("BEGIN");
-        self.settle(who, begun.is_ok());
+        let begun = self.connection.begin();
+        self.holder = self
+            .connection
+            .holder_after(who, begun.is_ok(), self.holder);
         begun
     }
 
     /// Commits the wire's transaction. Fails if none is open, or if a failure has ended it.
     pub(crate) fn commit(&mut self, who: u32) -> Result<(), Failure>
-        ensures other { is_held_by_other who self.old ≡ true → self.new ≡ self.old }
-        ensures over { OnOk result (is_held_by who self.new ≡ false) }
+        ensures other { is_held_by_other who self.old.holder ≡ true → self.new ≡ self.old }
+        ensures over { OnOk result (is_held_by who self.new.holder ≡ false) }
+        ensures committed { OnOk result (Issues (codes "COMMIT") true self.old.connection self.new.connection) }
+        ensures holds { MayHold who self.old.holder self.new.holder }
     {
         if !self.is_held_by(who) || self.connection.is_autocommit() {
             let _released = self.release(who);
             return Err(Failure::transaction_state());
         }
-        let committed = self.connection.execute_plain("COMMIT");
-        if !self.release(who) {
-            return Err(Failure::out_of_memory());
+        match self.connection.commit() {
+            Ok(()) => {
+                self.holder = None;
+                Ok(())
+            }
+            Err(failure) => {
+                if self.release(who) {
+                    Err(failure)
+                } else {
+                    Err(Failure::out_of_memory())
+                }
+            }
         }
-        committed
     }
 
     /// Rolls back the wire's transaction. Fails if none is open.
     pub(crate) fn roll_back(&mut self, who: u32) -> Result<(), Failure>
-        ensures other { is_held_by_other who self.old ≡ true → self.new ≡ self.old }
-        ensures over { OnOk result (is_held_by who self.new ≡ false) }
+        ensures other { is_held_by_other who self.old.holder ≡ true → self.new ≡ self.old }
+        ensures over { OnOk result (is_held_by who self.new.holder ≡ false) }
+        ensures undone { OnOk result (RollsBack self.old.connection self.new.connection) }
+        ensures holds { MayHold who self.old.holder self.new.holder }
     {
         if !self.is_held_by(who) {
             return Err(Failure::transaction_state());
@@ -147,16 +168,18 @@ impl Database {
     /// Rolls back the wire's transaction, if one is open. Returns false if the wire holds the database on, because
     /// SQLite couldn't roll back.
     pub(crate) fn release(&mut self, who: u32) -> bool
-        ensures other { is_held_by_other who self.old ≡ true → self.new ≡ self.old }
-        ensures over { result ≡ true → is_held_by who self.new ≡ false }
+        ensures stays { is_held_by who self.old.holder ≡ false → self.new ≡ self.old }
+        ensures other { is_held_by_other who self.old.holder ≡ true → self.new ≡ self.old }
+        ensures over { result ≡ true → is_held_by who self.new.holder ≡ false }
+        ensures undone { is_held_by who self.old.holder ≡ true → RollsBack self.old.connection self.new.connection }
+        ensures unreleased { result ≡ false → in_transaction self.new.connection ≡ true }
+        ensures kept { result ≡ false → is_held_by who self.new.holder ≡ true }
+        ensures holds { MayHold who self.old.holder self.new.holder }
     {
         if !self.is_held_by(who) {
             return true;
         }
-        if !self.connection.is_autocommit() {
-            let _ = self.connection.execute_plain("ROLLBACK");
-        }
-        if !self.connection.is_autocommit() {
+        if !self.connection.roll_back() {
             return false;
         }
         self.holder = None;
@@ -170,16 +193,6 @@ impl Database {
             Err(Failure::transaction_state())
         } else {
             Ok(())
-        }
-    }
-
-    /// Records after a statement of this wire whether its transaction is open. If a failure ended the transaction, the
-    /// wire holds the database on.
-    fn settle(&mut self, who: u32, is_done: bool) {
-        if !self.connection.is_autocommit() {
-            self.holder = Some(who);
-        } else if is_done {
-            self.holder = None;
         }
     }
 }

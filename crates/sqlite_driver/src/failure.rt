@@ -2,7 +2,7 @@ ghost use Rattle.std.specs.Prelude.{IfOk};
 ghost use Rattle.sqlite_driver.specs.Served.{IsTwice, is_fail};
 
 use dsql_driver::{Answered, DriverAnswer};
-use dsql_mem_session::copies_of;
+use dsql_driver_session::copies_of;
 use dsql_value::{Memory, Txt};
 use sqlite::{Error as SqliteError, ErrorCode};
 use std::alloc::{AllocError, AllocFailed, Global};

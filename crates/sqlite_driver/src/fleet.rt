@@ -5,7 +5,7 @@ ghost use Rattle.dsql_driver.specs.Wires.{answer_of, connected_after, newly_told
 ghost use Rattle.dsql_driver.specs.declared.answer.DriverAnswer.TheVariants.{Done};
 ghost use Rattle.dsql_mem_plans.specs.Faults.{faults_after};
 ghost use Rattle.dsql_mem_plans.specs.Fleets.{new_fleet, after_wire_plan, planned_for, connect_fault};
-ghost use Rattle.sqlite_session.specs.Session.{handles_of, cursors_of};
+ghost use Rattle.dsql_driver_session.specs.Session.{handles_of, cursors_of};
 ghost use Rattle.sqlite_driver.specs.Wire.{ability_of, new_wire};
 
 use crate::database::Database;

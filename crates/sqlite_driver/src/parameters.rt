@@ -1,6 +1,7 @@
 //! The parameters of statements. One without a name stands for the input in its place, and one with a name for the
 //! input that has the name.
 ghost use Rattle.std.specs.Prelude.{◌≡◌, IfOk, map};
+ghost use Rattle.sqlite_driver.specs.Connection.{are_by_place, is_by_place};
 ghost use Rattle.sqlite_driver.specs.Values.{sql_values};
 ghost use Rattle.sqlite_value.specs.Value.{owned};
 
@@ -15,8 +16,17 @@ use std::alloc::{AllocError, Global};
 const SYMBOLS: [&str; 3] = [":", "@", "$"];
 
 /// Returns true if no parameter has a name.
-pub(crate) fn are_by_place(params: &[Param]) -> bool {
-    params.iter().all(|param| param.name.is_none())
+pub(crate) fn are_by_place(params: &[Param]) -> bool
+    ensures { result ≡ are_by_place params.now }
+{
+    params.iter().all(|param| is_by_place(param))
+}
+
+/// Returns true if the parameter has no name.
+fn is_by_place(param: &Param) -> bool
+    ensures { result ≡ is_by_place param.now }
+{
+    param.name.is_none()
 }
 
 /// Returns the values of parameters that stand in their places.

@@ -1,15 +1,16 @@
 ghost use Rattle.std.specs.Prelude.{◌≡◌, ◌≤◌, true, false, IfOk, OnOk, OnErr};
 ghost use Rattle.dsql_driver.specs.Fits.{is_memory};
+ghost use Rattle.dsql_mem_plans.specs.WireLogs.{fault_due};
+ghost use Rattle.sqlite_driver.specs.Used.{LeavesAlone, UsesUnless};
 ghost use Rattle.sqlite_driver.specs.Wire.{Hears, ServesUnless, new_wire, after_plan, after_want};
-ghost use Rattle.sqlite_session.specs.Session.{IsSound};
+ghost use Rattle.dsql_driver_session.specs.Session.{IsSound};
 
 use crate::calls::carry_out;
 use crate::database::Database;
 use dsql_driver::{Answered, DriverAnswer, DriverCall, Planned};
+use dsql_driver_session::{Session, copies_of};
 use dsql_mem_plans::{Plan, WireLog};
-use dsql_mem_session::copies_of;
 use dsql_value::Memory;
-use sqlite_session::Session;
 use std::alloc::Global;
 use std::marker::Model;
 
@@ -51,7 +52,8 @@ impl PlannedSession {
         self.session.vouch();
     }
 
-    /// Answers a call. It answers Memory if there is no memory and nothing has been done, and records that.
+    /// Answers a call. It answers Memory if there is no memory and nothing has been done, and records that. If a
+    /// planned fault takes the call's place, nothing is done either.
     pub(crate) fn answer(
         &mut self,
         alloc: Global,
@@ -62,6 +64,10 @@ impl PlannedSession {
         ensures heard { is_memory result.answer ≡ false → Hears call.now result self.old self.new }
         ensures sound { IsSound self.old.session }
         ensures wants { is_memory result.answer ≡ true → self.new ≡ after_want call.now self.old }
+        ensures used { is_memory result.answer ≡ false → UsesUnless (fault_due call.now self.old.log)
+            self.old.log.told.number call.now result.answer self.old.session self.new.session
+            database.old database.new }
+        ensures undone { is_memory result.answer ≡ true → LeavesAlone database.old database.new }
         ensures counted { self.old.log.faults ≤ self.new.log.faults }
     {
         self.vouch();
@@ -80,6 +86,10 @@ impl PlannedSession {
     ) -> Result<Answered, Memory>
         ensures heard { IfOk result (λ answered. Hears call.now answered self.old self.new) }
         ensures err { OnErr result (self.new ≡ self.old) }
+        ensures used { IfOk result (λ answered. UsesUnless (fault_due call.now self.old.log)
+            self.old.log.told.number call.now answered.answer self.old.session self.new.session
+            database.old database.new) }
+        ensures undone { OnErr result (LeavesAlone database.old database.new) }
         ensures counted { self.old.log.faults ≤ self.new.log.faults }
     {
         let fault = self.log.fault_due(call)?;
@@ -117,7 +127,10 @@ fn carry_out_unless(
     call: &DriverCall,
 ) -> Result<Answered, Memory>
     ensures served { IfOk result (λ answered. ServesUnless fault call.now answered session.old session.new) }
+    ensures used { IfOk result (λ answered. UsesUnless fault who call.now answered.answer session.old session.new
+        database.old database.new) }
     ensures stays { OnErr result (session.new ≡ session.old) }
+    ensures undone { OnErr result (LeavesAlone database.old database.new) }
 {
     match fault {
         Some(fault) => {

@@ -3,7 +3,7 @@ ghost use Rattle.dsql_driver.specs.Fits.{fits_of, is_fault, is_memory};
 ghost use Rattle.dsql_driver.specs.Streams.{HasRisen};
 ghost use Rattle.dsql_driver.specs.Wires.{told_after, with_plan, KeepsHandles, KeepsCursors};
 ghost use Rattle.sqlite_driver.specs.Wire.{Hears, new_wire, after_plan, after_want};
-ghost use Rattle.sqlite_session.specs.Session.{handles_of, cursors_of};
+ghost use Rattle.dsql_driver_session.specs.Session.{handles_of, cursors_of};
 
 use crate::database::Database;
 use crate::planned_session::PlannedSession;
