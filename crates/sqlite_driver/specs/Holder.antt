@@ -1,5 +1,5 @@
 -- The wire that holds the database: its transaction is open.
-use Rattle.std.specs.Prelude.{◌≡◌, ◌⊎◌, ℕ, ◌==◌, Bool, true, false, not, ◌&&◌, Option, Some, None, codes}
+use Rattle.std.specs.Prelude.{◌≡◌, ◌⊎◌, ℕ, ◌==◌, Bool, true, false, not, Option, Some, None, codes}
 use Rattle.dsql_driver.specs.declared.answer.DriverAnswer.{DriverAnswer}
 use Rattle.dsql_driver.specs.declared.answer.DriverAnswer.TheVariants.{Fail}
 use Rattle.dsql_driver.specs.declared.call.DriverCall.{DriverCall}
@@ -21,10 +21,6 @@ is_held_by_other who (Some holder) = not (holder == who)
 abbrev pub is_guarded : SqliteConnection → Option ℕ → Bool
 is_guarded connection None = not (in_transaction connection)
 is_guarded connection (Some holder) = true
-
--- Is true if this wire holds the database though no transaction is open: a failure ended it.
-abbrev pub is_cut_off : ℕ → SqliteConnection → Option ℕ → Bool
-is_cut_off who connection holder = is_held_by who holder && not (in_transaction connection)
 
 -- Holds if the same wire holds the database as before, or none, or this one.
 abbrev pub MayHold : ℕ → Option ℕ → Option ℕ → Type 0
