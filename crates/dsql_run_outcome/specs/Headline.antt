@@ -100,8 +100,8 @@ pub record Untouched (before after : Seen) : Type 0 where
   pub ability : after.ability ≡ before.ability
   pub preferred : after.preferred ≡ before.preferred
 
--- Holds if the head of a script was read and nothing more. The fleet was asked only for the capabilities that a caps
--- line names.
+-- Holds if the head of a script was read. How much of the source is left isn't said. The fleet was asked only for the
+-- capabilities that a caps line names.
 pub record HeadRead (before after : Seen) : Type 0 where
   pub first : Result (Option ScriptLine) Stop
   pub reader : Position
@@ -109,7 +109,7 @@ pub record HeadRead (before after : Seen) : Type 0 where
   pub faults : CountsFaults (is_read_fault first) before.read_faults after.read_faults
 
 -- Holds if there was no memory for the run's first event. Nothing was written, no write failed, and the fleet
--- wasn't asked for a connection. Nothing was read, or only the head.
+-- wasn't asked for a connection. Nothing was read, or the head was.
 pub record NotBegun (stopped : Result Unit Stop) (before after : Seen) : Type 0 where
   pub memory : stopped ≡ Err Memory
   pub unwritten : after.written ≡ before.written

@@ -35,7 +35,7 @@ pub record Summarized (stopped told : Result Unit Stop) (before after : Seen) : 
   pub ran : Ran stopped (unreported before) (unreported after)
   pub written : WritesPiece told (summary ran.lines ran.history) before.written after.written
 
--- Holds if there was no memory for the run's first event, and nothing was written. Nothing was read, or only the head.
+-- Holds if there was no memory for the run's first event, and nothing was written. Nothing was read, or the head was.
 pub record NotSummarized (told : Result Unit Stop) (before after : Seen) : Type 0 where
   pub memory : told ≡ Err Memory
   pub unwritten : after.written ≡ before.written
