@@ -48,6 +48,9 @@ locked-Uses who call session database h = record {
   does = locked-Does who call session database h;
   held = λ other. refl;
   refused = λ needs other. refl;
+  fails = λ needs cut. refl;
+  rests = λ needs cut. refl;
+  had = λ ends done. cc;
   over = λ ends done. cc;
   holds = inl refl;
 }

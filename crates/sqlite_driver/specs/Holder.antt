@@ -1,5 +1,5 @@
 -- The wire that holds the database: its transaction is open.
-use Rattle.std.specs.Prelude.{◌≡◌, ◌⊎◌, ℕ, ◌==◌, Bool, true, false, not, Option, Some, None, codes}
+use Rattle.std.specs.Prelude.{◌≡◌, ◌⊎◌, ℕ, ◌==◌, Bool, true, false, not, ◌&&◌, Option, Some, None, codes}
 use Rattle.dsql_driver.specs.declared.answer.DriverAnswer.{DriverAnswer}
 use Rattle.dsql_driver.specs.declared.answer.DriverAnswer.TheVariants.{Fail}
 use Rattle.dsql_driver.specs.declared.call.DriverCall.{DriverCall}
@@ -22,6 +22,10 @@ abbrev pub is_guarded : SqliteConnection → Option ℕ → Bool
 is_guarded connection None = not (in_transaction connection)
 is_guarded connection (Some holder) = true
 
+-- Is true if this wire holds the database though no transaction is open: a failure ended it.
+abbrev pub is_cut_off : ℕ → SqliteConnection → Option ℕ → Bool
+is_cut_off who connection holder = is_held_by who holder && not (in_transaction connection)
+
 -- Holds if the same wire holds the database as before, or none, or this one.
 abbrev pub MayHold : ℕ → Option ℕ → Option ℕ → Type 0
 MayHold who old new = (new ≡ old) ⊎ ((new ≡ None) ⊎ (new ≡ Some who))
@@ -41,6 +45,12 @@ ends_transaction Commit = true
 ends_transaction Rollback = true
 ends_transaction Shut = true
 ends_transaction _ = false
+
+-- Is true if the call ends the transaction that its wire began.
+abbrev pub ends_own_transaction : DriverCall → Bool
+ends_own_transaction Commit = true
+ends_own_transaction Rollback = true
+ends_own_transaction _ = false
 
 -- The answer while another wire holds the database.
 abbrev pub locked : DriverAnswer

@@ -14,7 +14,7 @@ use Rattle.dsql_driver_session.specs.Rows.{ResultSetState}
 use Rattle.dsql_driver_session.specs.Session.{SessionState, text_of}
 use Rattle.dsql_value.specs.declared.value.Param.{Param}
 use Rattle.sqlite_driver.specs.Connection.{Compiles, Finds, Issues, Rests, RollsBack, Runs, in_transaction}
-use Rattle.sqlite_driver.specs.Holder.{MayHold, ends_transaction, is_held_by, is_held_by_other, locked, needs_database}
+use Rattle.sqlite_driver.specs.Holder.{MayHold, ends_own_transaction, ends_transaction, is_cut_off, is_held_by, is_held_by_other, locked, needs_database}
 use Rattle.sqlite_driver.specs.Served.{is_fail, numbers_spent}
 use Rattle.sqlite_driver.specs.declared.connection.SqliteConnection.{SqliteConnection}
 use Rattle.sqlite_driver.specs.declared.database.Database.{Database}
@@ -91,12 +91,17 @@ Does who Shut answer before after old new = Releases who answer old new
 Does who _ answer before after old new = new ≡ old
 
 -- Holds if a call of this wire, which was answered so, used the database as it may. While another wire holds the
--- database, it stays as it was, and a call that needs it is refused. The end of a transaction leaves it to other wires.
+-- database, it stays as it was, and a call that needs it is refused. So is one of a wire whose transaction a failure
+-- ended, until the wire ends the transaction too. Only a wire that holds the database ends a transaction, and leaves the
+-- database to other wires then.
 pub record Uses (who : ℕ) (call : DriverCall) (answer : DriverAnswer) (before after : SessionState)
     (old new : Database) : Type 0 where
   pub does : Does who call answer before after old new
   pub held : is_held_by_other who old.holder ≡ true → new ≡ old
   pub refused : needs_database call ≡ true → is_held_by_other who old.holder ≡ true → answer ≡ locked
+  pub fails : needs_database call ≡ true → is_cut_off who old.connection old.holder ≡ true → is_fail answer ≡ true
+  pub rests : needs_database call ≡ true → is_cut_off who old.connection old.holder ≡ true → new ≡ old
+  pub had : ends_own_transaction call ≡ true → is_done answer ≡ true → is_held_by who old.holder ≡ true
   pub over : ends_transaction call ≡ true → is_done answer ≡ true → is_held_by who new.holder ≡ false
   pub holds : MayHold who old.holder new.holder
 

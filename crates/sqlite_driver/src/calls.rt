@@ -1,7 +1,7 @@
 //! What each driver call does to a session and the database.
 ghost use Rattle.std.specs.Prelude.{◌≡◌, true, false, codes, option_map, IsOk, IfOk, OnErr};
 ghost use Rattle.dsql_driver.specs.Fits.{is_done};
-ghost use Rattle.sqlite_driver.specs.Holder.{MayHold, ends_transaction, is_held_by, is_held_by_other, needs_database};
+ghost use Rattle.sqlite_driver.specs.Holder.{MayHold, ends_own_transaction, ends_transaction, is_cut_off, is_held_by, is_held_by_other, needs_database};
 ghost use Rattle.sqlite_driver.specs.Served.{IsTwice, Serves, ServesPrepare, ServesQuery, is_done_or_bad, is_done_or_fail, is_executed, is_fail};
 ghost use Rattle.sqlite_driver.specs.Connection.{Issues, RollsBack};
 ghost use Rattle.sqlite_driver.specs.Used.{Begins, Does, Execs, LeavesAlone, Prepares, Queries, Releases, Uses, input_text};
@@ -76,6 +76,13 @@ fn serve(
     ensures does { IfOk result (λ answered. Does who call.now answered.answer session.old session.new
         database.old database.new) }
     ensures held { is_held_by_other who database.old.holder ≡ true → database.new ≡ database.old }
+    ensures fails { needs_database call.now ≡ true
+        → IfOk result (λ answered. is_cut_off who database.old.connection database.old.holder ≡ true
+        → is_fail answered.answer ≡ true) }
+    ensures rests { needs_database call.now ≡ true
+        → is_cut_off who database.old.connection database.old.holder ≡ true → database.new ≡ database.old }
+    ensures had { ends_own_transaction call.now ≡ true
+        → IfOk result (λ answered. is_done answered.answer ≡ true → is_held_by who database.old.holder ≡ true) }
     ensures over { ends_transaction call.now ≡ true
         → IfOk result (λ answered. is_done answered.answer ≡ true → is_held_by who database.new.holder ≡ false) }
     ensures holds { MayHold who database.old.holder database.new.holder }
@@ -122,6 +129,9 @@ fn prepare(
     ensures served { IfOk result (λ answered. ServesPrepare text.now answered session.old session.new) }
     ensures prepares { IfOk result (λ answered. is_fail answered.answer ≡ false
         → Prepares text.now answered.answer session.old database.old.connection database.new.connection) }
+    ensures fails { IfOk result (λ answered. is_cut_off who database.old.connection database.old.holder ≡ true
+        → is_fail answered.answer ≡ true) }
+    ensures rests { is_cut_off who database.old.connection database.old.holder ≡ true → database.new ≡ database.old }
     ensures holder { database.new.holder ≡ database.old.holder }
     ensures stays { OnErr result (session.new ≡ session.old) }
     ensures undone { OnErr result (LeavesAlone database.old database.new) }
@@ -148,6 +158,9 @@ fn execute(
     ensures answer { IfOk result (IsTwice is_executed) }
     ensures execs { IfOk result (λ answered. is_fail answered.answer ≡ false
         → Execs input.now params.now answered.answer session.now database.old.connection database.new.connection) }
+    ensures fails { IfOk result (λ answered. is_cut_off who database.old.connection database.old.holder ≡ true
+        → is_fail answered.answer ≡ true) }
+    ensures rests { is_cut_off who database.old.connection database.old.holder ≡ true → database.new ≡ database.old }
     ensures holds { MayHold who database.old.holder database.new.holder }
     ensures undone { OnErr result (database.new ≡ database.old) }
 {
@@ -176,6 +189,9 @@ fn query(
     ensures queries { IfOk result (λ answered. is_fail answered.answer ≡ false
         → Queries input.now params.now answered.answer session.old session.new
         database.old.connection database.new.connection) }
+    ensures fails { IfOk result (λ answered. is_cut_off who database.old.connection database.old.holder ≡ true
+        → is_fail answered.answer ≡ true) }
+    ensures rests { is_cut_off who database.old.connection database.old.holder ≡ true → database.new ≡ database.old }
     ensures holds { MayHold who database.old.holder database.new.holder }
     ensures stays { OnErr result (session.new ≡ session.old) }
     ensures undone { OnErr result (database.new ≡ database.old) }
@@ -215,6 +231,9 @@ fn begin(
     ensures answer { IfOk result (IsTwice is_done_or_fail) }
     ensures begins { IfOk result (λ answered. is_fail answered.answer ≡ false
         → Begins level read_only database.old.connection database.new.connection) }
+    ensures fails { IfOk result (λ answered. is_cut_off who database.old.connection database.old.holder ≡ true
+        → is_fail answered.answer ≡ true) }
+    ensures rests { is_cut_off who database.old.connection database.old.holder ≡ true → database.new ≡ database.old }
     ensures holds { MayHold who database.old.holder database.new.holder }
     ensures undone { OnErr result (database.new ≡ database.old) }
 {
@@ -236,6 +255,7 @@ fn commit(alloc: Global, database: &mut Database, who: u32) -> Result<Answered, 
     ensures answer { IfOk result (IsTwice is_done_or_fail) }
     ensures commits { IfOk result (λ answered. is_fail answered.answer ≡ false
         → Issues (codes "COMMIT") true database.old.connection database.new.connection) }
+    ensures had { IfOk result (λ answered. is_done answered.answer ≡ true → is_held_by who database.old.holder ≡ true) }
     ensures held { is_held_by_other who database.old.holder ≡ true → database.new ≡ database.old }
     ensures over { IfOk result (λ answered. is_done answered.answer ≡ true
         → is_held_by who database.new.holder ≡ false) }
@@ -252,6 +272,7 @@ fn roll_back(alloc: Global, database: &mut Database, who: u32) -> Result<Answere
     ensures answer { IfOk result (IsTwice is_done_or_fail) }
     ensures rolls_back { IfOk result (λ answered. is_fail answered.answer ≡ false
         → RollsBack database.old.connection database.new.connection) }
+    ensures had { IfOk result (λ answered. is_done answered.answer ≡ true → is_held_by who database.old.holder ≡ true) }
     ensures held { is_held_by_other who database.old.holder ≡ true → database.new ≡ database.old }
     ensures over { IfOk result (λ answered. is_done answered.answer ≡ true
         → is_held_by who database.new.holder ≡ false) }
@@ -263,7 +284,8 @@ fn roll_back(alloc: Global, database: &mut Database, who: u32) -> Result<Answere
     Ok(done_or(alloc, rolled_back, spare))
 }
 
-/// Rolls back the wire's transaction if one is open. If SQLite can't, the answer is Bad, and nothing has been done.
+/// Rolls back the wire's transaction if one is open. If SQLite can't, the answer is Bad, and the transaction is open
+/// still.
 fn release(database: &mut Database, who: u32) -> Answered
     ensures answer { IsTwice is_done_or_bad result }
     ensures releases { Releases who result.answer database.old database.new }

@@ -1,6 +1,6 @@
-ghost use Rattle.std.specs.Prelude.{◌≡◌, None, true, false, codes, IfOk, OnOk};
+ghost use Rattle.std.specs.Prelude.{◌≡◌, None, true, false, codes, is_ok, IfOk, OnOk};
 ghost use Rattle.sqlite_driver.specs.Connection.{Compiles, Finds, Issues, RollsBack, Runs, in_transaction};
-ghost use Rattle.sqlite_driver.specs.Holder.{MayHold, is_guarded, is_held_by, is_held_by_other};
+ghost use Rattle.sqlite_driver.specs.Holder.{MayHold, is_cut_off, is_guarded, is_held_by, is_held_by_other};
 
 use crate::connection::SqliteConnection;
 use crate::failure::Failure;
@@ -66,6 +66,8 @@ impl Database {
     /// Compiles a text and returns the number of its inputs.
     pub(crate) fn inputs(&mut self, who: u32, text: &str) -> Result<u16, Failure>
         ensures compiles { IfOk result (λ inputs. Compiles text.now inputs self.old.connection self.new.connection) }
+        ensures refused { is_cut_off who self.old.connection self.old.holder ≡ true → is_ok result ≡ false }
+        ensures rests { is_cut_off who self.old.connection self.old.holder ≡ true → self.new ≡ self.old }
         ensures holder { self.new.holder ≡ self.old.holder }
     {
         self.check_usable(who)?;
@@ -82,6 +84,8 @@ impl Database {
     ) -> Result<Executed, Failure>
         ensures runs { IfOk result (λ executed. Runs text.now params.now executed
             self.old.connection self.new.connection) }
+        ensures refused { is_cut_off who self.old.connection self.old.holder ≡ true → is_ok result ≡ false }
+        ensures rests { is_cut_off who self.old.connection self.old.holder ≡ true → self.new ≡ self.old }
         ensures holds { MayHold who self.old.holder self.new.holder }
     {
         self.check_usable(who)?;
@@ -101,6 +105,8 @@ impl Database {
         params: &[Param],
     ) -> Result<ResultSet, Failure>
         ensures finds { IfOk result (λ set. Finds text.now params.now set self.old.connection self.new.connection) }
+        ensures refused { is_cut_off who self.old.connection self.old.holder ≡ true → is_ok result ≡ false }
+        ensures rests { is_cut_off who self.old.connection self.old.holder ≡ true → self.new ≡ self.old }
         ensures holds { MayHold who self.old.holder self.new.holder }
     {
         self.check_usable(who)?;
@@ -112,6 +118,8 @@ impl Database {
     /// Begins a transaction, with which the wire holds the database.
     pub(crate) fn begin(&mut self, who: u32) -> Result<(), Failure>
         ensures begun { OnOk result (Issues (codes "BEGIN") true self.old.connection self.new.connection) }
+        ensures refused { is_cut_off who self.old.connection self.old.holder ≡ true → is_ok result ≡ false }
+        ensures rests { is_cut_off who self.old.connection self.old.holder ≡ true → self.new ≡ self.old }
         ensures holds { MayHold who self.old.holder self.new.holder }
     {
         self.check_usable(who)?;
@@ -126,6 +134,7 @@ impl Database {
     pub(crate) fn commit(&mut self, who: u32) -> Result<(), Failure>
         ensures other { is_held_by_other who self.old.holder ≡ true → self.new ≡ self.old }
         ensures over { OnOk result (is_held_by who self.new.holder ≡ false) }
+        ensures had { OnOk result (is_held_by who self.old.holder ≡ true) }
         ensures committed { OnOk result (Issues (codes "COMMIT") true self.old.connection self.new.connection) }
         ensures holds { MayHold who self.old.holder self.new.holder }
     {
@@ -152,6 +161,7 @@ impl Database {
     pub(crate) fn roll_back(&mut self, who: u32) -> Result<(), Failure>
         ensures other { is_held_by_other who self.old.holder ≡ true → self.new ≡ self.old }
         ensures over { OnOk result (is_held_by who self.new.holder ≡ false) }
+        ensures had { OnOk result (is_held_by who self.old.holder ≡ true) }
         ensures undone { OnOk result (RollsBack self.old.connection self.new.connection) }
         ensures holds { MayHold who self.old.holder self.new.holder }
     {
@@ -188,7 +198,9 @@ impl Database {
 
     /// Returns `Ok` unless a failure has ended the wire's transaction. Until the wire commits or rolls back, its
     /// statements are refused, because they would be committed one by one.
-    fn check_usable(&self, who: u32) -> Result<(), Failure> {
+    fn check_usable(&self, who: u32) -> Result<(), Failure>
+        ensures { OnOk result (is_cut_off who self.now.connection self.now.holder ≡ false) }
+    {
         if self.is_held_by(who) && self.connection.is_autocommit() {
             Err(Failure::transaction_state())
         } else {
