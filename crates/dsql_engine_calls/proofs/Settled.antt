@@ -14,9 +14,9 @@ use Rattle.dsql_history.specs.declared.record.CallRecord.{CallRecord}
 use Rattle.dsql_history.specs.declared.reply.Reply.{Reply}
 use Rattle.dsql_history.specs.declared.reply.Reply.TheVariants.{Truth}
 use Rattle.dsql_history.specs.declared.work.Scope.{Scope}
-use Rattle.dsql_history.specs.declared.work.Scope.TheVariants.{Db, Tx}
+use Rattle.dsql_history.specs.declared.work.Scope.TheVariants.{Db, Held}
 use Rattle.dsql_history.specs.declared.work.Work.{Work}
-use Rattle.dsql_history.specs.declared.work.Work.TheVariants.{Execute, ReadOne, HandOut, Begin, Ping, Fetch}
+use Rattle.dsql_history.specs.declared.work.Work.TheVariants.{Statement, Begin, Ping, Fetch}
 use Rattle.dsql_history.specs.Readers.Calls.{call_record, decided, done_with, has_begun_to_send, reply_due, told_as_lent, told_by_tries, told_of_work}
 use Rattle.dsql_history.specs.Readers.Calls as readers
 use Rattle.dsql_history.specs.Readers.Course.{caps, db_end}
@@ -47,15 +47,13 @@ unsent false end = refl
 -- The row gives the reply on the database and in a transaction.
 in_as : (H : List Event) (n : ℕ) (w : Work) (it : Scope) → told_by_tries_or_end (db_end H) (ended_in H n it) w (kept (tries H n)) it ≡ readers.told_by_scope H n w it
 in_as H n w Db = kept_told H w (tries H n)
-in_as H n w (Tx k) = unsent (has_begun_to_send H n) (tx_end H k)
+in_as H n w (Held k) = unsent (has_begun_to_send H n) (tx_end H k)
 
 beside_as : (H : List Event) (n : ℕ) (w : Work) → is_some (or_else (told_of_work H n w) (told_as_lent (caps H) w (tries H n))) ≡ true
     → or_else (told_beside (db_end H) (ended_in H n (scope w)) w (kept (tries H n))) (told_served (caps H).pinger w (kept (tries H n)).newest) ≡ or_else (told_of_work H n w) (told_as_lent (caps H) w (tries H n))
 beside_as H n (Fetch k) told =
     elim (are_over H k) as (λ b. is_some (or_else (cond b (Some (Truth false)) None) None) ≡ true → Some (Truth false) ≡ or_else (cond b (Some (Truth false)) None) None) [ true ↦ λ h. refl | false ↦ λ h. absurd cc ] told
-beside_as H n (Execute it) told = ap (λ (reply : Option Reply). or_else reply None) (in_as H n (Execute it) it)
-beside_as H n (ReadOne it dests) told = ap (λ (reply : Option Reply). or_else reply None) (in_as H n (ReadOne it dests) it)
-beside_as H n (HandOut it label) told = ap (λ (reply : Option Reply). or_else reply None) (in_as H n (HandOut it label) it)
+beside_as H n (Statement it task) told = ap (λ (reply : Option Reply). or_else reply None) (in_as H n (Statement it task) it)
 beside_as H n (Begin label level read_only) told = ap (λ (reply : Option Reply). or_else reply None) (in_as H n (Begin label level read_only) Db)
 beside_as H n Ping told =
     ap (λ (reply : Option Reply). or_else reply (told_served (caps H).pinger Ping (kept (tries H n)).newest)) (in_as H n Ping Db) ∙ ap (or_else (told_by_tries H Ping (tries H n))) (served_as (caps H) Ping (tries H n))

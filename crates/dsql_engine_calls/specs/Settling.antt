@@ -11,7 +11,7 @@ use Rattle.dsql_history.specs.declared.event.Event.{Event}
 use Rattle.dsql_history.specs.declared.reply.Reply.{Reply}
 use Rattle.dsql_history.specs.declared.reply.Reply.TheVariants as reply
 use Rattle.dsql_history.specs.declared.work.Scope.{Scope}
-use Rattle.dsql_history.specs.declared.work.Scope.TheVariants.{Db, Tx}
+use Rattle.dsql_history.specs.declared.work.Scope.TheVariants.{Db, Held}
 use Rattle.dsql_history.specs.declared.work.Work.{Work}
 use Rattle.dsql_history.specs.declared.work.Work.TheVariants.{Ping, Fetch, Close, End, Look}
 use Rattle.dsql_history.specs.Readers.Calls.{done_with, has_begun_to_send}
@@ -39,13 +39,13 @@ told_trying closed work tried =
 -- transaction, as long as the call has sent nothing there.
 abbrev pub told_by_tries_or_end : Option DbEnd → Option TxEnd → Work → Tried → Scope → Option Reply
 told_by_tries_or_end closed ended work tried Db = told_trying closed work tried
-told_by_tries_or_end closed ended work tried (Tx k) = done_with ended
+told_by_tries_or_end closed ended work tried (Held k) = done_with ended
 
 -- Returns what has ended the transaction in which call n works, if it works in one, as long as it has sent
 -- nothing there.
 abbrev pub ended_in : List Event → ℕ → Scope → Option TxEnd
 ended_in past n Db = None
-ended_in past n (Tx k) = cond (has_begun_to_send past n) None (tx_end past k)
+ended_in past n (Held k) = cond (has_begun_to_send past n) None (tx_end past k)
 
 abbrev pub ended_before : List Event → ℕ → Option TxEnd
 ended_before past n = ended_in past n (scope (work past n))

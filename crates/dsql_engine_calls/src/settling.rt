@@ -112,7 +112,7 @@ fn told_by_tries_or_end(
 {
     match scope(work) {
         Scope::Db => told_trying(work, tried, closed_by),
-        Scope::Tx(_) => ended_by.map(Reply::TxDone),
+        Scope::Held(_) => ended_by.map(Reply::TxDone),
     }
 }
 

@@ -5,16 +5,14 @@ ghost use Rattle.dsql_history.specs.Readers.Tries.{tries_again};
 ghost use Rattle.dsql_history.specs.Readers.Works.{aim_of, asks, borrower_in, hands_out_in, is_in, owner_as, scope};
 
 use crate::tried::MOST_TRIES;
-use dsql_history::{Aim, Owner, Scope, Work};
+use dsql_history::{Aim, Owner, Scope, Task, Work};
 
 /// Returns where the statement is carried out. Says nothing about calls on rows or on transactions themselves.
 pub fn scope(work: &Work) -> Scope
     ensures { result ≡ scope work.now }
 {
     match work {
-        Work::Execute(it) => *it,
-        Work::ReadOne(it, _) => *it,
-        Work::HandOut(it, _) => *it,
+        Work::Statement(it, _) => *it,
         _ => Scope::Db,
     }
 }
@@ -24,9 +22,7 @@ pub fn asks(work: &Work) -> bool
     ensures { result ≡ asks work.now }
 {
     match work {
-        Work::Execute(_) | Work::ReadOne(_, _) | Work::HandOut(_, _) => {
-            matches!(scope(work), Scope::Db)
-        }
+        Work::Statement(it, _) => matches!(it, Scope::Db),
         Work::Begin { .. } | Work::Ping => true,
         _ => false,
     }
@@ -44,8 +40,8 @@ pub fn aim_of(work: &Work) -> Aim
     ensures { result ≡ aim_of work.now }
 {
     match work {
-        Work::ReadOne(_, _) => Aim::ReadOne,
-        Work::HandOut(_, _) => Aim::HandOut,
+        Work::Statement(_, Task::ReadOne(_)) => Aim::ReadOne,
+        Work::Statement(_, Task::HandOut(_)) => Aim::HandOut,
         Work::Ping => Aim::Ping,
         _ => Aim::Execute,
     }
@@ -58,7 +54,7 @@ pub fn borrower_in(scope: Scope, call: u32) -> u32
 {
     match scope {
         Scope::Db => call,
-        Scope::Tx(tx) => tx,
+        Scope::Held(tx) => tx,
     }
 }
 
@@ -81,7 +77,7 @@ pub fn is_in(tx: u32, scope: Scope) -> bool
 {
     match scope {
         Scope::Db => false,
-        Scope::Tx(own) => own == tx,
+        Scope::Held(own) => own == tx,
     }
 }
 
@@ -90,7 +86,7 @@ pub fn hands_out_in(tx: u32, work: &Work) -> bool
     ensures { result ≡ hands_out_in tx work.now }
 {
     match work {
-        Work::HandOut(it, _) => is_in(tx, *it),
+        Work::Statement(it, Task::HandOut(_)) => is_in(tx, *it),
         _ => false,
     }
 }

@@ -12,9 +12,10 @@ use Rattle.dsql_laws_calls.specs.works.Line.{Asked}
 use Rattle.dsql_engine_exchanged.specs.declared.bare.BareCall.{BareCall}
 use Rattle.dsql_engine_exchanged.specs.Filled.{filled}
 use Rattle.dsql_laws_calls.specs.history.declared.event.Event.{Event}
-use Rattle.dsql_laws_calls.specs.history.declared.work.Scope.TheVariants.{Db, Tx}
+use Rattle.dsql_laws_calls.specs.history.declared.work.Scope.TheVariants.{Db, Held}
 use Rattle.dsql_laws_calls.specs.history.declared.work.Work.{Work}
-use Rattle.dsql_laws_calls.specs.history.declared.work.Work.TheVariants.{Execute, ReadOne, HandOut, End, Fetch, Close}
+use Rattle.dsql_laws_calls.specs.history.declared.work.Task.TheVariants.{Execute, ReadOne, HandOut}
+use Rattle.dsql_laws_calls.specs.history.declared.work.Work.TheVariants.{Statement, End, Fetch, Close}
 use Rattle.dsql_laws_calls.specs.history.Readers.Calls.{decided, has_begun_to_send}
 use Rattle.dsql_laws_calls.specs.history.Readers.Works.{asks, is_fetch, scope, work}
 use Rattle.dsql_laws_calls.specs.history.Rules.Line.{due_in, rest_with}
@@ -26,11 +27,11 @@ use Rattle.dsql_engine_desk.specs.Lines.{due_by, is_to_send}
 use Rattle.dsql_engine_desk.specs.Next.{IsWanted, has_line}
 
 pub due_by_kind : (H : List Event) (m : ℕ) (w : Work) → due_in H m w ≡ due_by H m (asks w) (scope w) (tx_worked w) (rows_worked w)
-due_by_kind H m (Execute Db) = refl
-due_by_kind H m (Execute (Tx k)) = refl
-due_by_kind H m (ReadOne Db dests) = refl
-due_by_kind H m (ReadOne (Tx k) dests) = refl
-due_by_kind H m (HandOut Db label) = refl
+due_by_kind H m (Statement Db Execute) = refl
+due_by_kind H m (Statement (Held k) Execute) = refl
+due_by_kind H m (Statement Db (ReadOne dests)) = refl
+due_by_kind H m (Statement (Held k) (ReadOne dests)) = refl
+due_by_kind H m (Statement Db (HandOut label)) = refl
 due_by_kind H m _ = refl
 
 -- Whether a driver call is sent doesn't depend on the statement that fills it.

@@ -11,7 +11,8 @@ use Rattle.dsql_laws_calls.specs.pool.declared.conn.Place.{Place}
 use Rattle.dsql_laws_calls.specs.pool.declared.conn.Place.TheVariants.{Idle, Lent, Opening, Closing}
 use Rattle.dsql_laws_calls.specs.pool.Pooled.{Pooled, next_tenure}
 use Rattle.dsql_laws_calls.specs.history.declared.work.Work.{Work}
-use Rattle.dsql_laws_calls.specs.history.declared.work.Work.TheVariants.{HandOut, Fetch}
+use Rattle.dsql_laws_calls.specs.history.declared.work.Task.TheVariants.{HandOut}
+use Rattle.dsql_laws_calls.specs.history.declared.work.Work.TheVariants.{Statement, Fetch}
 use Rattle.dsql_laws_calls.specs.works.HandedOut.{Made}
 use Rattle.dsql_laws_calls.specs.history.declared.event.Event.{Event}
 use Rattle.dsql_laws_calls.specs.history.declared.event.Event.TheVariants.{Heard}
@@ -33,8 +34,8 @@ use Rattle.dsql_engine_effects.proofs.Beside.{rows_beside, calls_beside}
 use Rattle.dsql_engine_desk.proofs.Kept.{heard_keeps}
 
 hears_nothing : (w : Work) (n : ℕ) (q : DriverCall) (made : Made) → opens_or_shuts q ≡ true → HearsRows w n q made
-hears_nothing (HandOut it label) n Connect made opens = tt
-hears_nothing (HandOut it label) n Shut made opens = tt
+hears_nothing (Statement it (HandOut label)) n Connect made opens = tt
+hears_nothing (Statement it (HandOut label)) n Shut made opens = tt
 hears_nothing (Fetch k) n Connect made opens = tt
 hears_nothing (Fetch k) n Shut made opens = tt
 hears_nothing w n Connect made opens = tt

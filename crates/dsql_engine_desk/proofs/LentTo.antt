@@ -12,7 +12,7 @@ use Rattle.dsql_laws_calls.specs.history.declared.event.Event.TheVariants.{Enter
 use Rattle.dsql_laws_calls.specs.history.declared.event.Op.{Op}
 use Rattle.dsql_laws_calls.specs.history.declared.event.Op.TheVariants as ops
 use Rattle.dsql_laws_calls.specs.history.declared.event.Target.TheVariants as targets
-use Rattle.dsql_laws_calls.specs.history.declared.work.Scope.TheVariants.{Tx}
+use Rattle.dsql_laws_calls.specs.history.declared.work.Scope.TheVariants.{Held}
 use Rattle.dsql_laws_calls.specs.history.declared.work.Work.{Work}
 use Rattle.dsql_laws_calls.specs.history.declared.work.Work.TheVariants.{Begin, Look}
 use Rattle.dsql_laws_calls.specs.history.Readers.Calls.{calls}
@@ -45,14 +45,14 @@ lent_in H n c _ is h = absurd cc
 pub lent_to : (H : List Event) (n c : ℕ) → lent_under H n ≡ Some c → LentTo H n c
 lent_to H n c h = lent_in H n c (place H (home H n)) refl h
 
-named_begins : (ws : List Work) (op : Op) (k : ℕ) → scope (work_of ws op) ≡ Tx k → k ≢ 0 → begins (slice_index_or ws k Look) ≡ true
+named_begins : (ws : List Work) (op : Op) (k : ℕ) → scope (work_of ws op) ≡ Held k → k ≢ 0 → begins (slice_index_or ws k Look) ≡ true
 named_begins ws (ops.Exec (targets.Label tx) text args) k is some = let at : tx_maker ws tx ≡ k = cc in maker_begins ws tx k at some
 named_begins ws (ops.Query label (targets.Label tx) text args) k is some = let at : tx_maker ws tx ≡ k = cc in maker_begins ws tx k at some
 named_begins ws (ops.One (targets.Label tx) dests text args) k is some = let at : tx_maker ws tx ≡ k = cc in maker_begins ws tx k at some
 named_begins ws op k is some = absurd cc
 
 -- The transaction in which a call works is that of a call that begins one.
-pub tx_begins : (H : List Event) (n k : ℕ) → Lawful H → scope (work H n) ≡ Tx k → k ≢ 0 → begins (work H k) ≡ true
+pub tx_begins : (H : List Event) (n k : ℕ) → Lawful H → scope (work H n) ≡ Held k → k ≢ 0 → begins (work H k) ≡ true
 tx_begins [] zero k l is some = absurd cc
 tx_begins [] (suc n) k l is some = absurd cc
 tx_begins (Entered client m op ∷ H) n k l is some = by (n == m) refl (tx_begins H n k l.0)
@@ -60,10 +60,10 @@ tx_begins (Entered client m op ∷ H) n k l is some = by (n == m) refl (tx_begin
     next : m ≡ length (calls H)
     next = enters_next H client m op l.1
 
-    by : (b : Bool) → (n == m) ≡ b → (scope (work H n) ≡ Tx k → k ≢ 0 → begins (work H k) ≡ true) → begins (work (Entered client m op ∷ H) k) ≡ true
+    by : (b : Bool) → (n == m) ≡ b → (scope (work H n) ≡ Held k → k ≢ 0 → begins (work H k) ≡ true) → begins (work (Entered client m op ∷ H) k) ≡ true
     by true found before =
         let same = same_number n m found in
-        let new : scope (work_of (works H) op) ≡ Tx k = sym (ap scope (ap (work (Entered client m op ∷ H)) same ∙ new_work H client m op next)) ∙ is in
+        let new : scope (work_of (works H) op) ≡ Held k = sym (ap scope (ap (work (Entered client m op ∷ H)) same ∙ new_work H client m op next)) ∙ is in
         still_begins H (Entered client m op) k (named_begins (works H) op k new some)
     by false apart before =
         let other : n ≢ m = λ same. let wrong : false ≡ true = sym apart ∙ (ap (λ j. j == m) same ∙ same_itself m) in absurd cc in
@@ -81,7 +81,7 @@ lent_to_tx H c t k own l at is begin =
     of_it.1 ∙ ap (owner_of H) (sym is) ∙ begin_owner (work H k) k begin
 
 -- A call in a transaction sends on the connection that is lent to that transaction.
-pub inside_lent : (H : List Event) (c t n k : ℕ) (own : Owner) → Lawful H → place H c ≡ Some (Lent t own) → k ≡ number_of own → scope (work H n) ≡ Tx k → own ≡ owners.Tx k
+pub inside_lent : (H : List Event) (c t n k : ℕ) (own : Owner) → Lawful H → place H c ≡ Some (Lent t own) → k ≡ number_of own → scope (work H n) ≡ Held k → own ≡ owners.Tx k
 inside_lent H c t n k own l at is inside =
     let some : k ≢ 0 = λ none. lent_number H c t own l at (sym is ∙ none) in
     lent_to_tx H c t k own l at is (tx_begins H n k l inside some)

@@ -21,9 +21,9 @@ use Rattle.dsql_engine_exchanged.specs.Inside.{inside_told}
 use Rattle.dsql_engine_exchanged.proofs.Open.{heard_exchanged}
 use Rattle.dsql_engine_exchanged.proofs.Told.{inside_as_heard}
 use Rattle.dsql_laws_calls.specs.history.declared.event.Event.{Event}
-use Rattle.dsql_laws_calls.specs.history.declared.work.Scope.TheVariants.{Db, Tx}
+use Rattle.dsql_laws_calls.specs.history.declared.work.Scope.TheVariants.{Db, Held}
 use Rattle.dsql_laws_calls.specs.history.declared.work.Work.{Work}
-use Rattle.dsql_laws_calls.specs.history.declared.work.Work.TheVariants.{Execute, ReadOne, HandOut, Begin, Ping, Look}
+use Rattle.dsql_laws_calls.specs.history.declared.work.Work.TheVariants.{Statement, Begin, Ping, Look}
 use Rattle.dsql_laws_calls.specs.history.Readers.Course.{caps}
 use Rattle.dsql_laws_calls.specs.history.Readers.Journals.{heard_in, journal}
 use Rattle.dsql_laws_calls.specs.history.Readers.Lines.{line_among}
@@ -105,9 +105,7 @@ on_db S (Begin label level read_only) line h = absurd cc
 on_db S w line h = refl
 
 own_borrower : (H : List Event) (n : ℕ) (w : Work) → work H n ≡ w → has_line w ≡ true → scope w ≡ Db → borrower H n ≡ n
-own_borrower H n (Execute Db) is line db = rw is refl
-own_borrower H n (ReadOne Db dests) is line db = rw is refl
-own_borrower H n (HandOut Db label) is line db = rw is refl
+own_borrower H n (Statement Db task) is line db = rw is refl
 own_borrower H n (Begin label level read_only) is line db = rw is refl
 own_borrower H n Ping is line db = rw is refl
 own_borrower H n Look is line db = rw is refl
@@ -131,11 +129,11 @@ next_on_db H n c wish sent l lent line options db so =
 
 -- A call in a transaction.
 
-in_tx : (S : Sender) (w : Work) (k : ℕ) (line : List Entry) → options_of w ≡ None → line_for w (Tx k) S line ≡ tx_line S line
+in_tx : (S : Sender) (w : Work) (k : ℕ) (line : List Entry) → options_of w ≡ None → line_for w (Held k) S line ≡ tx_line S line
 in_tx S (Begin label level read_only) k line h = absurd cc
 in_tx S w k line h = refl
 
-pub next_in_tx : (H : List Event) (n c k : ℕ) (wish : Wish) (sent : Option BareCall) → Lawful H → lent_under H (borrower H n) ≡ Some c → options_of (work H n) ≡ None → scope (work H n) ≡ Tx k
+pub next_in_tx : (H : List Event) (n c k : ℕ) (wish : Wish) (sent : Option BareCall) → Lawful H → lent_under H (borrower H n) ≡ Some c → options_of (work H n) ≡ None → scope (work H n) ≡ Held k
     → option_map (filled (asked_by H n)) sent ≡ inside_told (caps H) (there_at H c).ending.bad (asked_by H n) wish (line_at (lines H).calls n).heard → option_map (filled (asked_by H n)) sent ≡ line_of H n wish
 next_in_tx H n c k wish sent l lent options inside so =
     let it = lent_to H (borrower H n) c lent in

@@ -10,7 +10,8 @@ use Rattle.dsql_engine_exchanged.specs.Filled.{filled, has_statement}
 use Rattle.dsql_engine_exchanged.proofs.Filled.{carries}
 use Rattle.dsql_laws_calls.specs.history.declared.event.Event.{Event}
 use Rattle.dsql_laws_calls.specs.history.declared.work.Work.{Work}
-use Rattle.dsql_laws_calls.specs.history.declared.work.Work.TheVariants.{HandOut}
+use Rattle.dsql_laws_calls.specs.history.declared.work.Task.TheVariants.{HandOut}
+use Rattle.dsql_laws_calls.specs.history.declared.work.Work.TheVariants.{Statement}
 use Rattle.dsql_laws_calls.specs.history.Readers.HandedOut.{rows_by}
 use Rattle.dsql_laws_calls.specs.history.Readers.Works.{work}
 use Rattle.dsql_laws_calls.specs.history.Rules.Sent.{asked_by, line_of}
@@ -20,7 +21,7 @@ use Rattle.dsql_engine_desk.specs.Next.{has_line}
 use Rattle.dsql_engine_lines.proofs.OverRows.{over_rows}
 
 hands_line : (w : Work) → hands_out w ≡ true → has_line w ≡ true
-hands_line (HandOut it label) h = refl
+hands_line (Statement it (HandOut label)) h = refl
 hands_line w h = absurd cc
 
 pub made_line : (H : List Event) (n : ℕ) → is_some (rows_by H n) ≡ true → has_line (work H n) ≡ true

@@ -128,7 +128,7 @@ impl Desk {
     {
         match self.scope(call) {
             Scope::Db => false,
-            Scope::Tx(tx) => self.tx_end(tx).is_some(),
+            Scope::Held(tx) => self.tx_end(tx).is_some(),
         }
     }
 
@@ -139,7 +139,7 @@ impl Desk {
         ensures { result ≡ ended_before (past self.now) call }
     {
         match self.scope(call) {
-            Scope::Tx(tx) if !self.has_begun(call) => self.tx_end(tx),
+            Scope::Held(tx) if !self.has_begun(call) => self.tx_end(tx),
             _ => None,
         }
     }

@@ -14,7 +14,9 @@ use dsql_engine_calls::{CallStart, Ending, NoRoom};
 use dsql_engine_effects::starting::{
     accept, begin_told, over_begin, over_end, over_rows, over_text, told_on,
 };
-use dsql_laws_calls::{Args, Dests, Label, Level, Op, Reply, Scope, Target, TxEnd, Txt, Work};
+use dsql_laws_calls::{
+    Args, Dests, Label, Level, Op, Reply, Scope, Target, Task, TxEnd, Txt, Work,
+};
 use std::alloc::Global;
 
 #[tactic(auto, unfolding(crate::specs::Desk::Stands))]
@@ -86,7 +88,7 @@ impl Desk {
         requires { Stands self.now }
         ensures { IfOk result (λ it. Starts (past self.now) (ops.Exec target.now text.now args.now) it) }
     {
-        let work = Work::Execute(self.scope_of(target));
+        let work = Work::Statement(self.scope_of(target), Task::Execute);
         self.entering_text(alloc, target, text, args, work, None)
     }
 
@@ -102,7 +104,7 @@ impl Desk {
         requires { Stands self.now }
         ensures { IfOk result (λ it. Starts (past self.now) (ops.Query label.now target.now text.now args.now) it) }
     {
-        let work = Work::HandOut(self.scope_of(target), Label::of(label));
+        let work = Work::Statement(self.scope_of(target), Task::HandOut(Label::of(label)));
         let label = Some(String::from_str(alloc, label.as_str())?);
         self.entering_text(alloc, target, text, args, work, label)
     }
@@ -119,7 +121,7 @@ impl Desk {
         requires { Stands self.now }
         ensures { IfOk result (λ it. Starts (past self.now) (ops.One target.now dests.now text.now args.now) it) }
     {
-        let work = Work::ReadOne(self.scope_of(target), dests.clone()?);
+        let work = Work::Statement(self.scope_of(target), Task::ReadOne(dests.clone()?));
         self.entering_text(alloc, target, text, args, work, None)
     }
 
@@ -199,7 +201,7 @@ impl Desk {
     {
         match target {
             Target::Db => Scope::Db,
-            Target::Label(tx) => Scope::Tx(self.tx_maker(tx)),
+            Target::Label(tx) => Scope::Held(self.tx_maker(tx)),
         }
     }
 

@@ -5,7 +5,7 @@ ghost use Rattle.dsql_engine_desk.specs.Lines.{due_alone, due_by, due_ending, is
 ghost use Rattle.dsql_engine_exchanged.specs.Filled.{filled};
 ghost use Rattle.dsql_engine_calls.specs.Calls.{rows_worked, tx_worked};
 ghost use Rattle.dsql_engine_desk.specs.Next.{IsWanted, has_line};
-ghost use Rattle.dsql_laws_calls.specs.history.declared.work.Scope.TheVariants.{Tx};
+ghost use Rattle.dsql_laws_calls.specs.history.declared.work.Scope.TheVariants.{Held};
 ghost use Rattle.dsql_laws_calls.specs.history.Readers.Unfinished.{is_unfinished};
 ghost use Rattle.dsql_laws_calls.specs.history.Readers.Works.{asks, scope, work};
 ghost use Rattle.dsql_laws_calls.specs.works.Line.{Asked};
@@ -170,14 +170,14 @@ impl Desk {
     {
         match self.scope(call) {
             Scope::Db => self.asks(call),
-            Scope::Tx(tx) => self.sends_in(call, tx),
+            Scope::Held(tx) => self.sends_in(call, tx),
         }
     }
 
     /// Returns whether a call in a transaction has begun to send, or may begin.
     fn sends_in(&self, call: u32, tx: u32) -> bool
         requires stands { Stands self.now }
-        requires inside { scope (work (past self.now) call) ≡ Tx tx }
+        requires inside { scope (work (past self.now) call) ≡ Held tx }
         ensures { result ≡ sends_in (past self.now) call tx }
     {
         self.has_begun(call) || (self.tx_goes_on(tx) && !self.has_decided(call))

@@ -131,7 +131,7 @@ ended_first first later rows = by (is_live rows) refl
 
 ends_at_last : (it : Scope) (rows : Rows) → ended_by ends.EndOfRun (born (is_inside it) rows) ≡ ended_by (last_end it) rows
 ends_at_last scopes.Db rows = refl
-ends_at_last (scopes.Tx k) rows = ended_first ends.TxEnded ends.EndOfRun rows
+ends_at_last (scopes.Held k) rows = ended_first ends.TxEnded ends.EndOfRun rows
 
 changed_each : (change : Rows → Rows) (f : ℕ → Rows → Rows) (rows : Made) → all_changed change (each f rows) ≡ each (λ q r. change (f q r)) rows
 changed_each change f [] = refl

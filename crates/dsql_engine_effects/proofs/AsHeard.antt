@@ -7,9 +7,10 @@ use Rattle.dsql_history.specs.driver.declared.answer.DriverAnswer.{DriverAnswer}
 use Rattle.dsql_history.specs.driver.declared.answer.DriverAnswer.TheVariants.{Cursor}
 use Rattle.dsql_history.specs.works.HandedOut.{Made}
 use Rattle.dsql_history.specs.declared.event.Event.{Event}
-use Rattle.dsql_history.specs.declared.work.Scope.TheVariants.{Db, Tx}
+use Rattle.dsql_history.specs.declared.work.Scope.TheVariants.{Db, Held}
 use Rattle.dsql_history.specs.declared.work.Work.{Work}
-use Rattle.dsql_history.specs.declared.work.Work.TheVariants.{HandOut, Fetch}
+use Rattle.dsql_history.specs.declared.work.Task.TheVariants.{HandOut}
+use Rattle.dsql_history.specs.declared.work.Work.TheVariants.{Statement, Fetch}
 use Rattle.dsql_history.specs.Readers.Calls.{is_there, tx_refused}
 use Rattle.dsql_history.specs.Readers.HandedOut.{rows_heard}
 use Rattle.dsql_history.specs.Readers.Transactions.{transactions}
@@ -18,9 +19,9 @@ use Rattle.dsql_engine_effects.specs.Heard.{rows_after}
 use Rattle.dsql_engine_effects.specs.Starting.{told_on}
 
 pub rows_as_heard : (H : List Event) (it : Work) (n : ℕ) (call : DriverCall) (answer : DriverAnswer) (rows : Made) → rows_after (transactions H) it n call answer rows ≡ rows_heard H it n call answer rows
-rows_as_heard H (HandOut Db label) n (Query input params) (Cursor cursor columns) rows = refl
-rows_as_heard H (HandOut (Tx k) label) n (Query input params) (Cursor cursor columns) rows = refl
-rows_as_heard H (HandOut it label) n (Query input params) answer rows = refl
+rows_as_heard H (Statement Db (HandOut label)) n (Query input params) (Cursor cursor columns) rows = refl
+rows_as_heard H (Statement (Held k) (HandOut label)) n (Query input params) (Cursor cursor columns) rows = refl
+rows_as_heard H (Statement it (HandOut label)) n (Query input params) answer rows = refl
 rows_as_heard H (Fetch k) n (Next cursor) answer rows = refl
 rows_as_heard H it n call answer rows = refl
 

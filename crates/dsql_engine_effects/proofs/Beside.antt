@@ -9,13 +9,14 @@ use Rattle.dsql_history.specs.tx.declared.tx.Tx.{Tx}
 use Rattle.dsql_history.specs.works.HandedOut.{Made}
 use Rattle.dsql_engine_effects.specs.Heard.{is_fetch_or_query, calls_after, rows_after}
 use Rattle.dsql_history.specs.declared.work.Work.{Work}
-use Rattle.dsql_history.specs.declared.work.Work.TheVariants.{HandOut, Fetch}
+use Rattle.dsql_history.specs.declared.work.Task.TheVariants.{HandOut}
+use Rattle.dsql_history.specs.declared.work.Work.TheVariants.{Statement, Fetch}
 use Rattle.dsql_engine_calls.specs.declared.call.CallRow.{CallRow}
 
 pub rows_beside : (txs : Numbered Tx) (it : Work) (n : ℕ) (call : DriverCall) (answer : DriverAnswer) (rows : Made) → is_fetch_or_query call ≡ false → rows_after txs it n call answer rows ≡ rows
 rows_beside txs it n (Query input params) answer rows other = absurd cc
 rows_beside txs it n (Next cursor) answer rows other = absurd cc
-rows_beside txs (HandOut scope label) n call answer rows other = refl
+rows_beside txs (Statement scope (HandOut label)) n call answer rows other = refl
 rows_beside txs (Fetch k) n call answer rows other = refl
 rows_beside txs it n call answer rows other = refl
 

@@ -10,7 +10,8 @@ use Rattle.std.proofs.lemmas.Bool.{cases_Bool}
 use Rattle.std.proofs.lemmas.Bool.Decides.{nat_tests}
 use Rattle.std.proofs.lemmas.List.Folds.{position_or_len_push}
 use Rattle.dsql_history.specs.declared.work.Work.{Work}
-use Rattle.dsql_history.specs.declared.work.Work.TheVariants.{HandOut, Begin}
+use Rattle.dsql_history.specs.declared.work.Task.TheVariants.{HandOut}
+use Rattle.dsql_history.specs.declared.work.Work.TheVariants.{Statement, Begin}
 use Rattle.dsql_history.specs.Readers.Works.{begins_as, hands_out_as}
 
 -- A label that is put into a map.
@@ -62,8 +63,8 @@ position_pushed p xs x =
 
 rows_as : (w : Work) (n : ℕ) (label : List ℕ) (earlier : Option ℕ) → labelled (label_made w) n label earlier ≡ with_last (hands_out_as label w) n earlier
 unfolding with_last
-rows_as (HandOut it made) n label None = elim (cases_Bool (bytes_eq made label)) [ inl same ↦ rw same refl | inr other ↦ rw other refl ]
-rows_as (HandOut it made) n label (Some m) = refl
+rows_as (Statement it (HandOut made)) n label None = elim (cases_Bool (bytes_eq made label)) [ inl same ↦ rw same refl | inr other ↦ rw other refl ]
+rows_as (Statement it (HandOut made)) n label (Some m) = refl
 rows_as w n label (Some m) = refl
 rows_as w n label None = refl
 

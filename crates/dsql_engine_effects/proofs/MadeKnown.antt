@@ -15,7 +15,8 @@ use Rattle.dsql_history.specs.declared.event.Event.TheVariants.{Entered, Heard, 
 use Rattle.dsql_history.specs.declared.event.Op.{Op}
 use Rattle.dsql_history.specs.declared.event.Op.TheVariants.{RowsClose, Commit, Rollback}
 use Rattle.dsql_history.specs.declared.work.Work.{Work}
-use Rattle.dsql_history.specs.declared.work.Work.TheVariants.{HandOut, Fetch}
+use Rattle.dsql_history.specs.declared.work.Task.TheVariants.{HandOut}
+use Rattle.dsql_history.specs.declared.work.Work.TheVariants.{Statement, Fetch}
 use Rattle.dsql_history.specs.Readers.Unfinished.{is_unfinished}
 use Rattle.dsql_history.specs.Readers.Works.{hands_out_in, rows_maker, scope, tx_maker, work, work_of, works}
 use Rattle.dsql_engine_effects.specs.Starts.{label_made}
@@ -55,7 +56,7 @@ pushed_made n m new (it ∷ later) is =
     elim (n == it.0) as (λ b. is_some (cond b (Some it.1) (rows_of n (later ++ (m, new) ∷ []))) ≡ true → (is_some (cond b (Some it.1) (rows_of n later)) ≡ true) ⊎ (n ≡ m)) [ true ↦ λ h. inl refl | false ↦ λ h. pushed_made n m new later h ] is
 
 heard_made : (H : List Event) (it : Work) (m n : ℕ) (call : DriverCall) (answer : DriverAnswer) (rows : Made) → was_made n (rows_heard H it m call answer rows) ≡ true → (was_made n rows ≡ true) ⊎ ((n ≡ m) × (hands_out it ≡ true))
-heard_made H (HandOut it label) m n (Query input params) (answers.Cursor cursor columns) rows is = by (pushed_made n m (born (is_late H it) (fresh cursor columns)) rows is)
+heard_made H (Statement it (HandOut label)) m n (Query input params) (answers.Cursor cursor columns) rows is = by (pushed_made n m (born (is_late H it) (fresh cursor columns)) rows is)
   where
     by : (was_made n rows ≡ true) ⊎ (n ≡ m) → (was_made n rows ≡ true) ⊎ ((n ≡ m) × (true ≡ true))
     by (inl old) = inl old

@@ -13,7 +13,8 @@ use Rattle.dsql_history.specs.declared.event.Event.{Event}
 use Rattle.dsql_history.specs.declared.event.Op.{Op}
 use Rattle.dsql_history.specs.declared.event.Op.TheVariants.{RowsClose, Commit, Rollback}
 use Rattle.dsql_history.specs.declared.work.Work.{Work}
-use Rattle.dsql_history.specs.declared.work.Work.TheVariants.{HandOut, Fetch}
+use Rattle.dsql_history.specs.declared.work.Task.TheVariants.{HandOut}
+use Rattle.dsql_history.specs.declared.work.Work.TheVariants.{Statement, Fetch}
 use Rattle.dsql_history.specs.Readers.Unfinished.{is_unfinished}
 use Rattle.dsql_history.specs.Readers.Works.{hands_out_in, rows_maker, scope, tx_maker, work, works}
 use Rattle.dsql_engine_effects.specs.Heard.{HearsRows}
@@ -21,7 +22,7 @@ use Rattle.dsql_engine_effects.specs.Once.{AreMadeOnce}
 use Rattle.dsql_engine_effects.proofs.MadeOnce.{once_changed, once_each, once_pushed}
 
 pub rows_once_heard : (H : List Event) (it : Work) (n : ℕ) (call : DriverCall) (answer : DriverAnswer) (rows : Made) → HearsRows it n call rows → AreMadeOnce rows → AreMadeOnce (rows_heard H it n call answer rows)
-rows_once_heard H (HandOut it label) n (Query input params) (Cursor cursor columns) rows hears once = once_pushed n (born (is_late H it) (fresh cursor columns)) rows hears once
+rows_once_heard H (Statement it (HandOut label)) n (Query input params) (Cursor cursor columns) rows hears once = once_pushed n (born (is_late H it) (fresh cursor columns)) rows hears once
 rows_once_heard H (Fetch k) n (Next cursor) answer rows hears once = once_changed (fetched answer) k rows once
 rows_once_heard H it n call answer rows hears once = once
 

@@ -25,7 +25,8 @@ use Rattle.dsql_history.specs.declared.event.Op.{Op}
 use Rattle.dsql_history.specs.declared.event.Op.TheVariants.{RowsClose, Commit, Rollback}
 use Rattle.dsql_history.specs.declared.work.Scope.{Scope}
 use Rattle.dsql_history.specs.declared.work.Work.{Work}
-use Rattle.dsql_history.specs.declared.work.Work.TheVariants.{HandOut, Fetch}
+use Rattle.dsql_history.specs.declared.work.Task.TheVariants.{HandOut}
+use Rattle.dsql_history.specs.declared.work.Work.TheVariants.{Statement, Fetch}
 use Rattle.dsql_history.specs.Readers.Unfinished.{is_unfinished}
 use Rattle.dsql_history.specs.Readers.Works.{hands_out_in, rows_maker, scope, tx_maker, work, works}
 use Rattle.dsql_engine_calls.specs.declared.call.CallRow.{CallRow}
@@ -58,7 +59,7 @@ born_dead true rows h = ended_dead ends.TxEnded rows h
 born_dead false rows h = h
 
 heard_goes : (H : List Event) (it : Work) (m n : ℕ) (call : DriverCall) (answer : DriverAnswer) (rows : Made) → Goes live (rows_of n rows) (rows_of n (rows_heard H it m call answer rows))
-heard_goes H (HandOut it label) m n (Query input params) (answers.Cursor cursor columns) rows = found_first live n m (born (is_late H it) (fresh cursor columns)) rows
+heard_goes H (Statement it (HandOut label)) m n (Query input params) (answers.Cursor cursor columns) rows = found_first live n m (born (is_late H it) (fresh cursor columns)) rows
 heard_goes H (Fetch k) m n (Next cursor) answer rows = changed_goes live (fetched answer) (fetched_dead answer) k n rows
 heard_goes H it m n call answer rows = stays live (rows_of n rows)
 
@@ -273,7 +274,7 @@ heard_ends H e it calls is hears known had = by it e.call refl is hears
         → (m : ℕ) → (row_at calls m).ender ≡ ender (Heard e ∷ H) m
     still w q asked does lives m = had m ∙ sym (first.ender_stays live rows_by caller ender rows_are_ended H (Heard e) m (λ lived. ap live (after w q asked does m) ∙ lives m lived))
 
-    pushed : (m : ℕ) (a : DriverAnswer) (it : Scope) (label : List ℕ) (input : Input) (params : List Param) → live (rows_by H m) ≡ true → live (rows_of m (rows_heard H (HandOut it label) e.call_no (Query input params) a (handed_out H))) ≡ true
+    pushed : (m : ℕ) (a : DriverAnswer) (it : Scope) (label : List ℕ) (input : Input) (params : List Param) → live (rows_by H m) ≡ true → live (rows_of m (rows_heard H (Statement it (HandOut label)) e.call_no (Query input params) a (handed_out H))) ≡ true
     pushed m (answers.Cursor cursor columns) it label input params lived = pushed_lives m e.call_no (born (is_late H it) (fresh cursor columns)) (handed_out H) lived
     pushed m a it label input params lived = lived
 
@@ -294,6 +295,6 @@ heard_ends H e it calls is hears known had = by it e.call refl is hears
         (λ leaving lived. ap live (after (Fetch k) (Next cursor) asked does m ∙ changes_one_number.others (fetched e.answer) k m (handed_out H) apart) ∙ lived))
 
     by : (w : Work) (q : DriverCall) → e.call ≡ q → work H e.call_no ≡ w → HearsRows w e.call_no q (handed_out H) → (m : ℕ) → (row_at (calls_after w e.call_no q e.answer (handed_out H) calls) m).ender ≡ ender (Heard e ∷ H) m
-    by (HandOut it label) (Query input params) asked does new = still (HandOut it label) (Query input params) asked does (λ m lived. pushed m e.answer it label input params lived)
+    by (Statement it (HandOut label)) (Query input params) asked does new = still (Statement it (HandOut label)) (Query input params) asked does (λ m lived. pushed m e.answer it label input params lived)
     by (Fetch k) (Next cursor) asked does made = fetching k cursor asked does made
     by w q asked does hear = still w q asked does (λ m lived. lived)

@@ -31,7 +31,7 @@ numbered works = min (length works) most_counted
 -- Is true if the scope is a transaction.
 abbrev pub is_inside : Scope → Bool
 is_inside scopes.Db = false
-is_inside (scopes.Tx k) = true
+is_inside (scopes.Held k) = true
 
 abbrev pub works_inside : Work → Bool
 works_inside work = is_inside (scope work)

@@ -20,7 +20,8 @@ use Rattle.dsql_history.specs.declared.reply.Reply.{Reply}
 use Rattle.dsql_history.specs.declared.work.Scope.{Scope}
 use Rattle.dsql_history.specs.declared.work.Scope.TheVariants as scopes
 use Rattle.dsql_history.specs.declared.work.Work.{Work}
-use Rattle.dsql_history.specs.declared.work.Work.TheVariants.{HandOut, Fetch}
+use Rattle.dsql_history.specs.declared.work.Task.TheVariants.{HandOut}
+use Rattle.dsql_history.specs.declared.work.Work.TheVariants.{Statement, Fetch}
 use Rattle.dsql_history.specs.Readers.Calls.{decided_by}
 use Rattle.dsql_history.specs.Readers.Decisions.{Trying, decision, fetch_decision, query_decision}
 use Rattle.dsql_history.specs.Readers.Transactions.{end_of}
@@ -54,7 +55,7 @@ pub record Decides (number : ℕ) (work : Work) (entry : Entry) (copy : DriverAn
 -- Holds if a query hasn't made its rows yet, and if a fetch is of rows that were made. Those may have ended
 -- meanwhile.
 abbrev pub HearsRows : Work → ℕ → DriverCall → Made → Type 0
-HearsRows (HandOut it label) n (Query input params) rows = was_made n rows ≡ false
+HearsRows (Statement it (HandOut label)) n (Query input params) rows = was_made n rows ≡ false
 HearsRows (Fetch k) n (Next cursor) rows = was_made k rows ≡ true
 HearsRows _ n call rows = Unit {0}
 
@@ -66,7 +67,7 @@ HearsBegin n call txs = Unit {0}
 -- Is true if rows of a call in this scope come too late, given these transactions.
 abbrev pub are_late : Numbered Tx → Scope → Bool
 are_late txs scopes.Db = false
-are_late txs (scopes.Tx k) = is_some (end_of (thing_of k txs))
+are_late txs (scopes.Held k) = is_some (end_of (thing_of k txs))
 
 -- Returns the rows together with those of call n, if this answer is their cursor. `late` says whether they come
 -- too late.
@@ -76,7 +77,7 @@ made_by late n _ rows = rows
 
 -- Returns the rows after an answer to call n with this work, given these transactions.
 abbrev pub rows_after : Numbered Tx → Work → ℕ → DriverCall → DriverAnswer → Made → Made
-rows_after txs (HandOut it label) n (Query input params) answer rows = made_by (are_late txs it) n answer rows
+rows_after txs (Statement it (HandOut label)) n (Query input params) answer rows = made_by (are_late txs it) n answer rows
 rows_after txs (Fetch k) n (Next cursor) answer rows = changed (fetched answer) k rows
 rows_after txs _ n call answer rows = rows
 

@@ -9,7 +9,8 @@ use Rattle.dsql_history.specs.Readers.HandedOut.{live, handed_out, rows_entered}
 use Rattle.dsql_history.specs.declared.event.Event.{Event}
 use Rattle.dsql_history.specs.declared.event.Op.{Op}
 use Rattle.dsql_history.specs.declared.work.Work.{Work}
-use Rattle.dsql_history.specs.declared.work.Work.TheVariants.{HandOut, Begin}
+use Rattle.dsql_history.specs.declared.work.Task.TheVariants.{HandOut}
+use Rattle.dsql_history.specs.declared.work.Work.TheVariants.{Statement, Begin}
 use Rattle.dsql_history.specs.Readers.Course.{caps}
 use Rattle.dsql_history.specs.Readers.Calls.{params_at_entry, told_at_entry}
 use Rattle.dsql_history.specs.Readers.Decisions.{statement}
@@ -40,7 +41,7 @@ AreMade (Some k) rows = was_made k rows ≡ true
 
 -- Returns the label of the rows that a call hands out, if it hands out rows.
 abbrev pub label_made : Work → Option (List ℕ)
-label_made (HandOut it label) = Some label
+label_made (Statement it (HandOut label)) = Some label
 label_made _ = None
 
 -- Returns the label of the transaction that a call begins, if it begins one.

@@ -14,8 +14,8 @@ use dsql_engine_calls::replies::reply_of;
 use dsql_engine_calls::works::tries_again;
 use dsql_engine_calls::{CallRow, NoRoom};
 use dsql_history::{
-    Dest, DriverAnswer, DriverCall, Entry, Fate, FaultWord, Reply, RowFault, ScanFault, Value,
-    Work, scan_row,
+    Dest, DriverAnswer, DriverCall, Entry, Fate, FaultWord, Reply, RowFault, ScanFault, Task,
+    Value, Work, scan_row,
 };
 use std::alloc::Global;
 
@@ -83,7 +83,7 @@ fn fetch_decision(
     ensures { IfOk result (λ reply. reply ≡ fetch_decision again number work.now answer.now) }
 {
     match (work, answer) {
-        (Work::ReadOne(_, dests), DriverAnswer::Row(values)) => {
+        (Work::Statement(_, Task::ReadOne(dests)), DriverAnswer::Row(values)) => {
             row_reply(alloc, values.as_slice(), dests.as_slice())
         }
         (Work::Fetch(_), answer) => Ok(Some(Reply::Truth(matches!(answer, DriverAnswer::Row(_))))),
@@ -103,7 +103,7 @@ fn query_decision(
     ensures { IfOk result (λ reply. reply ≡ query_decision again number work.now answer.now) }
 {
     match (work, answer) {
-        (Work::HandOut(_, _), DriverAnswer::Cursor { columns, .. }) => {
+        (Work::Statement(_, Task::HandOut(_)), DriverAnswer::Cursor { columns, .. }) => {
             Ok(Some(Reply::Rows(columns.clone()?)))
         }
         (_, answer) => Ok(reply_of(again, number, answer.clone()?)),

@@ -127,7 +127,7 @@ fn end_inside(calls: &Vec<CallRow>, rows: &mut RowsTable, query: u32)
     ensures rows { rows.new.rows ≡ ended_if (works_inside (row_at calls.now.items query).work) query rows.old.rows }
     ensures spare { rows.new.spare ≡ rows.old.spare }
 {
-    if let Scope::Tx(_) = scope_of(calls, query) {
+    if let Scope::Held(_) = scope_of(calls, query) {
         end_made(rows, query);
     }
 }

@@ -9,7 +9,9 @@ ghost use Rattle.dsql_engine_effects.specs.Starts.{AreMade, closed_rows, closed_
 ghost use Rattle.dsql_engine_calls.specs.Calls.{row_at};
 
 use dsql_engine_calls::CallRow;
-use dsql_history::{DriverAnswer, DriverCall, Entry, RowsEnd, RowsTable, Scope, Txs, Values, Work};
+use dsql_history::{
+    DriverAnswer, DriverCall, Entry, RowsEnd, RowsTable, Scope, Task, Txs, Values, Work,
+};
 
 /// Ends the rows of a query for a call, if one is named.
 pub fn close_rows(calls: &mut Vec<CallRow>, rows: &mut RowsTable, closes: Option<u32>, call: u32)
@@ -51,7 +53,7 @@ pub fn note_rows(
         return;
     };
     match (&row.work, &entry.call) {
-        (Work::HandOut(it, _), DriverCall::Query(_, _)) => {
+        (Work::Statement(it, Task::HandOut(_)), DriverCall::Query(_, _)) => {
             let late = are_late(txs, *it);
             make_rows(rows, late, entry.call_no, copy);
         }
@@ -70,7 +72,7 @@ fn are_late(txs: &Txs, it: Scope) -> bool
 {
     match it {
         Scope::Db => false,
-        Scope::Tx(tx) => txs.was_made(tx) && txs.admit(tx).is_err(),
+        Scope::Held(tx) => txs.was_made(tx) && txs.admit(tx).is_err(),
     }
 }
 

@@ -13,7 +13,9 @@ use crate::rows::note_rows;
 use dsql_engine_calls::replies::{bad_reply, begin_reply, count_reply, done_reply, reply_of};
 use dsql_engine_calls::works::tries_again;
 use dsql_engine_calls::{CallRow, Tried};
-use dsql_history::{CallRecord, DriverAnswer, DriverCall, Entry, Reply, RowsTable, Txs, Work};
+use dsql_history::{
+    CallRecord, DriverAnswer, DriverCall, Entry, Reply, RowsTable, Task, Txs, Work,
+};
 
 /// Records the answer of an entry for its call, the rows and the transactions. `copy` is a copy of the entry's
 /// answer, and `reply` is what the answer to a Query or a Next decides.
@@ -137,7 +139,7 @@ fn is_tried(work: &Work, call: &DriverCall) -> bool
         | DriverCall::Exec(_, _)
         | DriverCall::Query(_, _)
         | DriverCall::Begin { .. } => true,
-        DriverCall::Next(_) => matches!(work, Work::ReadOne(_, _)),
+        DriverCall::Next(_) => matches!(work, Work::Statement(_, Task::ReadOne(_))),
         _ => false,
     }
 }

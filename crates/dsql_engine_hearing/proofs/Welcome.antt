@@ -30,7 +30,8 @@ use Rattle.dsql_engine_going.specs.history.declared.work.Scope.{Scope}
 use Rattle.dsql_engine_going.specs.history.declared.work.Scope.TheVariants as scopes
 use Rattle.dsql_engine_going.specs.history.declared.work.Work.{Work}
 use Rattle.dsql_engine_going.specs.history.declared.work.Work.TheVariants as works
-use Rattle.dsql_engine_going.specs.history.declared.work.Work.TheVariants.{HandOut, Fetch}
+use Rattle.dsql_engine_going.specs.history.declared.work.Task.TheVariants.{HandOut}
+use Rattle.dsql_engine_going.specs.history.declared.work.Work.TheVariants.{Statement, Fetch}
 use Rattle.dsql_engine_going.specs.history.Readers.HandedOut.{handed_out, rows_by}
 use Rattle.dsql_engine_going.specs.history.Readers.Journals.{journal}
 use Rattle.dsql_engine_going.specs.history.Readers.Lines.{is_about}
@@ -175,19 +176,19 @@ allowed_heard H e l s begun w =
 -- A query makes its rows once.
 
 -- A call hands out rows in the transaction in which it works.
-hands_inside : (it : Scope) (k : ℕ) → it ≡ scopes.Tx k → is_in k it ≡ true
+hands_inside : (it : Scope) (k : ℕ) → it ≡ scopes.Held k → is_in k it ≡ true
 hands_inside scopes.Db k h = absurd cc
-hands_inside (scopes.Tx j) k h = let same : j ≡ k = cc in ap (λ i. i == k) same ∙ same_itself k
+hands_inside (scopes.Held j) k h = let same : j ≡ k = cc in ap (λ i. i == k) same ∙ same_itself k
 
 -- A call that hands out rows asks for a connection of its own or works in a transaction.
-asks_or_inside : (it : Scope) (label : List ℕ) → asks (HandOut it label) ≡ false → scope (HandOut it label) ≡ scopes.Db → true ≡ false
+asks_or_inside : (it : Scope) (label : List ℕ) → asks (Statement it (HandOut label)) ≡ false → scope (Statement it (HandOut label)) ≡ scopes.Db → true ≡ false
 asks_or_inside scopes.Db label h k = h
-asks_or_inside (scopes.Tx j) label h k = absurd cc
+asks_or_inside (scopes.Held j) label h k = absurd cc
 
 -- In a transaction, a Query is of rows that weren't made yet, because what is sent over made rows is about
 -- their cursor.
 rows_new_inside : (H : List Event) (e : Entry) (own : Owner) (it : Scope) (label : List ℕ) (input : Input) (params : List Param) → Lawful H → may_come H e ≡ true → place H e.conn ≡ Some (Lent e.tenure own) → is_call own ≡ false
-    → work H e.call_no ≡ HandOut it label → e.call ≡ Query input params → is_some (rows_by H e.call_no) ≡ false
+    → work H e.call_no ≡ Statement it (HandOut label) → e.call ≡ Query input params → is_some (rows_by H e.call_no) ≡ false
 rows_new_inside H e own it label input params l may is other its query = by (came H e own l (sound H l) (holds H l) may is other)
   where
     within : InnerWay H e.conn e.tenure own e.call_no e.call → (b : Bool) → is_some (rows_by H e.call_no) ≡ b → b ≡ false
@@ -206,7 +207,7 @@ rows_new_inside H e own it label input params l may is other its query = by (cam
     by (inr (inl w)) = within w (is_some (rows_by H e.call_no)) refl
     by (inr (inr w)) = let o = w.other in clash (asks_or_inside it label (sym (ap asks its) ∙ o.asks_none) (sym (ap scope its) ∙ o.outside))
 
-rows_new_lent : (H : List Event) (e : Entry) (it : Scope) (label : List ℕ) (input : Input) (params : List Param) → Lawful H → may_come H e ≡ true → work H e.call_no ≡ HandOut it label → e.call ≡ Query input params
+rows_new_lent : (H : List Event) (e : Entry) (it : Scope) (label : List ℕ) (input : Input) (params : List Param) → Lawful H → may_come H e ≡ true → work H e.call_no ≡ Statement it (HandOut label) → e.call ≡ Query input params
     → is_some (rows_by H e.call_no) ≡ false
 rows_new_lent H e it label input params l may its query = let u = stays_with_its_call H e l may in by u.owner u.lent (is_call u.owner) refl
   where
@@ -216,17 +217,17 @@ rows_new_lent H e it label input params l may its query = let u = stays_with_its
 
 -- A fetch is of rows that were made.
 rows_lent : (H : List Event) (e : Entry) (it : Work) (q : DriverCall) → Lawful H → may_come H e ≡ true → work H e.call_no ≡ it → e.call ≡ q → HearsRows it e.call_no q (handed_out H)
-rows_lent H e (HandOut sc label) (Query input params) l may its call = rows_new_lent H e sc label input params l may its call
+rows_lent H e (Statement sc (HandOut label)) (Query input params) l may its call = rows_new_lent H e sc label input params l may its call
 rows_lent H e (Fetch k) (Next cursor) l may its call = rows_fetched H e k l may its
 rows_lent H e _ q l may its call = tt
 
 rows_opened : (H : List Event) (it : Work) (n : ℕ) → HearsRows it n Connect (handed_out H)
-rows_opened H (HandOut sc label) n = tt
+rows_opened H (Statement sc (HandOut label)) n = tt
 rows_opened H (Fetch k) n = tt
 rows_opened H it n = tt
 
 rows_shut : (H : List Event) (it : Work) (n : ℕ) → HearsRows it n Shut (handed_out H)
-rows_shut H (HandOut sc label) n = tt
+rows_shut H (Statement sc (HandOut label)) n = tt
 rows_shut H (Fetch k) n = tt
 rows_shut H it n = tt
 
@@ -251,7 +252,7 @@ unbegun_there H e own l may is number begin = by (is_call own) refl
     of_call call true begun = call_unbegun H e.conn e.tenure own l is call (ap (is_begun H) number ∙ begun)
     of_call call false begun = refl
 
-    begins_outside : (w : Work) → begins w ≡ true → (k : ℕ) → scope w ≡ scopes.Tx k → true ≡ false
+    begins_outside : (w : Work) → begins w ≡ true → (k : ℕ) → scope w ≡ scopes.Held k → true ≡ false
     begins_outside (works.Begin label level read_only) h k inner = absurd cc
     begins_outside w h k inner = absurd cc
 

@@ -38,8 +38,9 @@ use Rattle.dsql_engine_hearing.proofs.laws_calls.Itself.{bytes_itself, int_itsel
 use Rattle.dsql_engine_hearing.specs.history.Same.{same_level}
 use Rattle.dsql_engine_hearing.specs.history.declared.event.Event.{Event}
 use Rattle.dsql_engine_hearing.specs.history.declared.work.Scope.{Scope}
-use Rattle.dsql_engine_hearing.specs.history.declared.work.Scope.TheVariants.{Db, Tx}
+use Rattle.dsql_engine_hearing.specs.history.declared.work.Scope.TheVariants.{Db, Held}
 use Rattle.dsql_engine_hearing.specs.history.declared.work.Work.{Work}
+use Rattle.dsql_engine_hearing.specs.history.declared.work.Task.TheVariants as tasks
 use Rattle.dsql_engine_hearing.specs.history.declared.work.Work.TheVariants as works_of
 use Rattle.dsql_engine_hearing.specs.history.Readers.Calls.{site}
 use Rattle.dsql_engine_hearing.specs.history.Readers.Course.{caps}
@@ -139,7 +140,7 @@ begin_within can reset level read_only (e ∷ earlier) =
 with_within : (S : Sender) (it : Work) (s : Scope) (line : List Entry) → is_within (line_for it s S line) ≡ true
 with_within S (works_of.Begin label level read_only) s line = begin_within S.can S.reset_due level read_only line
 with_within S it Db line = line_within S.can S.reset_due S.asked S.wish line
-with_within S it (Tx k) line = inner_within (untested S.can) S.bad S.asked S.wish (exchanges line) (handed S.asked.aim (exchanges line))
+with_within S it (Held k) line = inner_within (untested S.can) S.bad S.asked S.wish (exchanges line) (handed S.asked.aim (exchanges line))
 
 at_within : (H : List Event) (n : ℕ) (w : Wish) (c : ℕ) (at : Option Place) → is_within (line_at H n w c at) ≡ true
 at_within H n w c (Some (Lent t own)) =
@@ -194,16 +195,16 @@ ending_within H k = by (tx_end H k)
 
 inside_within : (H : List Event) (m : ℕ) (s : Scope) → is_within (due_inside H m s) ≡ true
 inside_within H m Db = line_of_within H m wishes.Nothing
-inside_within H m (Tx k) = either_within (sends_in H m k) (line_of H m wishes.Nothing) None (line_of_within H m wishes.Nothing) refl
+inside_within H m (Held k) = either_within (sends_in H m k) (line_of H m wishes.Nothing) None (line_of_within H m wishes.Nothing) refl
 
 due_in_within : (H : List Event) (m : ℕ) (it : Work) → is_within (due_in H m it) ≡ true
 due_in_within H m (works_of.Fetch k) = over_rows_within H k (wish H m k)
 due_in_within H m (works_of.Close k) = over_rows_within H k (wish H m k)
 due_in_within H m (works_of.End k) = either_within (tx_ender H k == m) (ending H k) None (ending_within H k) refl
 due_in_within H m works_of.Look = refl
-due_in_within H m (works_of.Execute s) = inside_within H m s
-due_in_within H m (works_of.ReadOne s dests) = inside_within H m s
-due_in_within H m (works_of.HandOut s label) = inside_within H m s
+due_in_within H m (works_of.Statement s tasks.Execute) = inside_within H m s
+due_in_within H m (works_of.Statement s (tasks.ReadOne dests)) = inside_within H m s
+due_in_within H m (works_of.Statement s (tasks.HandOut label)) = inside_within H m s
 due_in_within H m _ = inside_within H m Db
 
 due_within : (H : List Event) (m : ℕ) → is_within (due_for H m) ≡ true

@@ -35,7 +35,7 @@ use Rattle.dsql_engine_hearing.proofs.laws_calls.Itself.{level_itself, truth_its
 use Rattle.dsql_engine_hearing.specs.exchanged.Filled.{carries_statement}
 use Rattle.dsql_engine_hearing.specs.history.declared.event.Event.{Event}
 use Rattle.dsql_engine_hearing.specs.history.declared.work.Scope.{Scope}
-use Rattle.dsql_engine_hearing.specs.history.declared.work.Scope.TheVariants.{Db, Tx}
+use Rattle.dsql_engine_hearing.specs.history.declared.work.Scope.TheVariants.{Db, Held}
 use Rattle.dsql_engine_hearing.specs.history.declared.work.Work.{Work}
 use Rattle.dsql_engine_hearing.specs.history.declared.work.Work.TheVariants as works_of
 use Rattle.dsql_engine_hearing.specs.history.Same.{same_level}
@@ -114,7 +114,7 @@ begin_opens can reset level read_only (e ∷ earlier) =
 with_opens : (S : Sender) (it : Work) (s : Scope) (L : List Entry) → opens_none (line_for it s S L) ≡ true
 with_opens S (works_of.Begin label level read_only) s L = begin_opens S.can S.reset_due level read_only L
 with_opens S it Db L = call_opens S.can S.reset_due S.asked S.wish L
-with_opens S it (Tx k) L = inner_opens (untested S.can) S.bad S.asked S.wish (exchanges L) (handed S.asked.aim (exchanges L))
+with_opens S it (Held k) L = inner_opens (untested S.can) S.bad S.asked S.wish (exchanges L) (handed S.asked.aim (exchanges L))
 
 line_opens : (H : List Event) (n : ℕ) (w : Wish) (c : ℕ) (at : Option Place) → opens_none (line_at H n w c at) ≡ true
 line_opens H n w c (Some (Lent t o)) =

@@ -8,9 +8,10 @@ use Rattle.dsql_engine_hearing.specs.pool.declared.conn.Place.TheVariants.{Lent}
 use Rattle.dsql_engine_hearing.specs.tx.declared.end.TxEnd.{TxEnd}
 use Rattle.dsql_engine_hearing.proofs.laws.Tests.{same_number}
 use Rattle.dsql_engine_hearing.specs.history.declared.event.Event.{Event}
-use Rattle.dsql_engine_hearing.specs.history.declared.work.Scope.TheVariants.{Tx}
+use Rattle.dsql_engine_hearing.specs.history.declared.work.Scope.TheVariants.{Held}
 use Rattle.dsql_engine_hearing.specs.history.declared.work.Work.{Work}
-use Rattle.dsql_engine_hearing.specs.history.declared.work.Work.TheVariants.{HandOut}
+use Rattle.dsql_engine_hearing.specs.history.declared.work.Task.TheVariants.{HandOut}
+use Rattle.dsql_engine_hearing.specs.history.declared.work.Work.TheVariants.{Statement}
 use Rattle.dsql_engine_hearing.specs.history.Readers.Course.{has_ended}
 use Rattle.dsql_engine_hearing.specs.history.Readers.HandedOut.{are_over, ender}
 use Rattle.dsql_engine_hearing.specs.history.Readers.Pool.{place}
@@ -53,7 +54,7 @@ by_none ender d h = by (ender == 0) refl h
 
 -- A query with a connection of its own hands out no rows of a transaction. Those can be over as they are made.
 asks_outside : (it : Work) → asks it ≡ true → rows.hands_out_inside it ≡ false
-asks_outside (HandOut (Tx k) label) own = absurd cc
+asks_outside (Statement (Held k) (HandOut label)) own = absurd cc
 asks_outside _ own = refl
 
 tidied : (H : List Event) (n : ℕ) → Lawful H → asks (work H n) ≡ true → is_some (tidying H n) ≡ true → has_ended H ≡ true

@@ -17,9 +17,9 @@ use Rattle.dsql_laws_calls.proofs.laws.Tests.{same_number}
 use Rattle.dsql_engine_exchanged.proofs.Carried.{begin_carries, inner_carries}
 use Rattle.dsql_laws_calls.specs.history.declared.event.Event.{Event}
 use Rattle.dsql_laws_calls.specs.history.declared.work.Scope.{Scope}
-use Rattle.dsql_laws_calls.specs.history.declared.work.Scope.TheVariants.{Db, Tx}
+use Rattle.dsql_laws_calls.specs.history.declared.work.Scope.TheVariants.{Db, Held}
 use Rattle.dsql_laws_calls.specs.history.declared.work.Work.{Work}
-use Rattle.dsql_laws_calls.specs.history.declared.work.Work.TheVariants.{Execute, ReadOne, HandOut, Begin, End, Ping, Fetch, Close, Look}
+use Rattle.dsql_laws_calls.specs.history.declared.work.Work.TheVariants.{Statement, Begin, End, Ping, Fetch, Close, Look}
 use Rattle.dsql_laws_calls.specs.history.Readers.Calls.{site}
 use Rattle.dsql_laws_calls.specs.history.Readers.Journals.{heard_in}
 use Rattle.dsql_laws_calls.specs.history.Readers.Lines.{line_in}
@@ -56,7 +56,7 @@ either_carries asked false o h = tt
 with_carries : (S : Sender) (it : Work) (s : Scope) (line : List Entry) → IfSome (line_for it s S line) (Carries S.asked)
 with_carries S (Begin label level read_only) s line = begin_carries S.can S.reset_due level read_only S.asked line
 with_carries S it Db line = line_carries S.can S.reset_due S.asked S.wish line
-with_carries S it (Tx k) line = inner_carries S.can S.bad S.asked S.wish line
+with_carries S it (Held k) line = inner_carries S.can S.bad S.asked S.wish line
 
 line_of_carries : (H : List Event) (n : ℕ) (wish : Wish) → IfSome (line_of H n wish) (Carries (asked_by H n))
 line_of_carries H n wish = at (site H n) (place H (site H n))
@@ -92,7 +92,7 @@ due_in_carries H m l = by (work H m) refl
   where
     inside : (s : Scope) → IfSome (due_inside H m s) (Carries (asked_by H m))
     inside Db = line_of_carries H m wishes.Nothing
-    inside (Tx k) = either_carries (asked_by H m) (sends_in H m k) (line_of H m wishes.Nothing) (line_of_carries H m wishes.Nothing)
+    inside (Held k) = either_carries (asked_by H m) (sends_in H m k) (line_of H m wishes.Nothing) (line_of_carries H m wishes.Nothing)
 
     busy : (w : Work) → work H m ≡ w → (w ≡ Look → ⊥) → (m == 0) ≡ false
     busy w is some = numbered H m (λ look. some (sym is ∙ look))
@@ -102,9 +102,7 @@ due_in_carries H m l = by (work H m) refl
     by (Close k) is = over_rows H m k l (busy (Close k) is (λ same. cc))
     by (End k) is = either_carries (asked_by H m) (tx_ender H k == m) (ending H k) (unstated_carries (asked_by H m) (ending H k) (ending_unstated H k l))
     by Look is = tt
-    by (Execute s) is = inside s
-    by (ReadOne s dests) is = inside s
-    by (HandOut s label) is = inside s
+    by (Statement s task) is = inside s
     by (Begin label level read_only) is = inside Db
     by Ping is = inside Db
 

@@ -13,7 +13,7 @@ use Rattle.dsql_laws_calls.proofs.laws_work.Rows.{same_or_not}
 use Rattle.dsql_laws_calls.specs.history.declared.event.Event.{Event}
 use Rattle.dsql_laws_calls.specs.history.declared.event.Event.TheVariants.{Entered, Heard, Pool}
 use Rattle.dsql_laws_calls.specs.history.declared.event.Op.{Op}
-use Rattle.dsql_laws_calls.specs.history.declared.work.Scope.TheVariants.{Tx}
+use Rattle.dsql_laws_calls.specs.history.declared.work.Scope.TheVariants.{Held}
 use Rattle.dsql_laws_calls.specs.history.Readers.Journals.{heard_in, journal}
 use Rattle.dsql_laws_calls.specs.history.Readers.Lines.{has_sent, line_among}
 use Rattle.dsql_laws_calls.specs.history.Readers.Pool.{home, place}
@@ -71,7 +71,7 @@ unfolding Unsent
 no_line H c t n none = unsent_line n (heard_in H c t) (unsent_in n t (journal H c) (none c))
 
 -- As a connection is lent to a transaction, no call in that transaction has sent anything.
-unsent_at_lending : (H : List Event) (c t k : ℕ) (n m : ℕ) → Lawful H → Allowed H (Pool (Lend c t (owners.Tx k) m)) → scope (work H n) ≡ Tx k → Unsent H n
+unsent_at_lending : (H : List Event) (c t k : ℕ) (n m : ℕ) → Lawful H → Allowed H (Pool (Lend c t (owners.Tx k) m)) → scope (work H n) ≡ Held k → Unsent H n
 unfolding Unsent
 unsent_at_lending H c t k n m l a in_it = λ d. by d (has_sent n (journal H d)) refl
   where
@@ -113,7 +113,7 @@ of_another H e c t k l a is apart = λ same. by same (is_house_entry e) refl
 IsLine : List Event → ℕ → ℕ → ℕ → Type 0
 IsLine H c t n = line_at (lines H).calls n ≡ heard_line (line_among n (heard_in H c t))
 
-line_in_time : (H : List Event) (e : Entry) (c t k n : ℕ) → Lawful H → Allowed H (Heard e) → place H c ≡ Some (Lent t (owners.Tx k)) → scope (work H n) ≡ Tx k → IsLine H c t n → IsLine (Heard e ∷ H) c t n
+line_in_time : (H : List Event) (e : Entry) (c t k n : ℕ) → Lawful H → Allowed H (Heard e) → place H c ≡ Some (Lent t (owners.Tx k)) → scope (work H n) ≡ Held k → IsLine H c t n → IsLine (Heard e ∷ H) c t n
 unfolding IsLine
 line_in_time H e c t k n l a is in_it so_far = by (same_or_not e.conn c)
   where
@@ -127,7 +127,7 @@ line_in_time H e c t k n l a is in_it so_far = by (same_or_not e.conn c)
         let other : is_in (number_of e.owner) (scope (work H n)) ≡ false = ap (is_in (number_of e.owner)) in_it ∙ other_number k (number_of e.owner) (of_another H e c t k l a is apart) in
         hears_none H e n other ∙ so_far ∙ sym (ap (λ J. heard_line (line_among n (of_tenure t J))) (heard_other H e c apart))
 
-line_at_entry : (H : List Event) (client m : ℕ) (op : Op) (c t k n : ℕ) → Lawful H → Allowed H (Entered client m op) → scope (work (Entered client m op ∷ H) n) ≡ Tx k → (scope (work H n) ≡ Tx k → IsLine H c t n) → IsLine (Entered client m op ∷ H) c t n
+line_at_entry : (H : List Event) (client m : ℕ) (op : Op) (c t k n : ℕ) → Lawful H → Allowed H (Entered client m op) → scope (work (Entered client m op ∷ H) n) ≡ Held k → (scope (work H n) ≡ Held k → IsLine H c t n) → IsLine (Entered client m op ∷ H) c t n
 unfolding IsLine
 line_at_entry H client m op c t k n l a in_it earlier = by (same_or_not n m)
   where
@@ -140,22 +140,22 @@ line_at_entry H client m op c t k n l a in_it earlier = by (same_or_not n m)
         let old = old_work H client m op n (enters_next H client m op a) apart in
         line_pushed (lines H).calls n ∙ earlier (sym (ap scope old) ∙ in_it)
 
-line_there : (H : List Event) (e : Event) (c t k n : ℕ) → Lawful H → Allowed H e → place H c ≡ Some (Lent t (owners.Tx k)) → scope (work (e ∷ H) n) ≡ Tx k → (scope (work H n) ≡ Tx k → IsLine H c t n) → IsLine (e ∷ H) c t n
+line_there : (H : List Event) (e : Event) (c t k n : ℕ) → Lawful H → Allowed H e → place H c ≡ Some (Lent t (owners.Tx k)) → scope (work (e ∷ H) n) ≡ Held k → (scope (work H n) ≡ Held k → IsLine H c t n) → IsLine (e ∷ H) c t n
 unfolding IsLine
 line_there H (Heard e) c t k n l a is in_it earlier = line_in_time H e c t k n l a is in_it (earlier in_it)
 line_there H (Entered client m op) c t k n l a is in_it earlier = line_at_entry H client m op c t k n l a in_it earlier
 line_there H _ c t k n l a is in_it earlier = earlier in_it
 
-pub kept_line : (H : List Event) (c t n k : ℕ) → Lawful H → scope (work H n) ≡ Tx k → place H c ≡ Some (Lent t (owners.Tx k))
+pub kept_line : (H : List Event) (c t n k : ℕ) → Lawful H → scope (work H n) ≡ Held k → place H c ≡ Some (Lent t (owners.Tx k))
     → line_at (lines H).calls n ≡ heard_line (line_among n (heard_in H c t))
 unfolding IsLine
 kept_line [] c t n k l in_it is = absurd cc
 kept_line (e ∷ H) c t n k l in_it is = by (lent_before H e c t (owners.Tx k) l.0 is) (kept_line H c t n k l.0)
   where
-    by : (place H c ≡ Some (Lent t (owners.Tx k))) ⊎ Lends e c t (owners.Tx k) → (scope (work H n) ≡ Tx k → place H c ≡ Some (Lent t (owners.Tx k)) → IsLine H c t n) → IsLine (e ∷ H) c t n
+    by : (place H c ≡ Some (Lent t (owners.Tx k))) ⊎ Lends e c t (owners.Tx k) → (scope (work H n) ≡ Held k → place H c ≡ Some (Lent t (owners.Tx k)) → IsLine H c t n) → IsLine (e ∷ H) c t n
     by (inl before) earlier = line_there H e c t k n l.0 l.1 before in_it (λ was. earlier was before)
     by (inr lends_it) earlier =
         let a : Allowed H (Pool (Lend c t (owners.Tx k) lends_it.0)) = subst (λ x. Allowed H x) lends_it.1 l.1 in
-        let was : scope (work H n) ≡ Tx k = subst (λ x. scope (work (x ∷ H) n) ≡ Tx k) lends_it.1 in_it in
+        let was : scope (work H n) ≡ Held k = subst (λ x. scope (work (x ∷ H) n) ≡ Held k) lends_it.1 in_it in
         let none = unsent_at_lending H c t k n lends_it.0 l.0 a was in
         subst (λ x. IsLine (x ∷ H) c t n) (sym lends_it.1) (silent H n none ∙ sym (ap heard_line (no_line H c t n none)))

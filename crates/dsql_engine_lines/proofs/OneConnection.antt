@@ -10,9 +10,10 @@ use Rattle.dsql_laws_calls.proofs.laws_work.Rows.{same_or_not}
 use Rattle.dsql_laws_calls.specs.history.declared.event.Event.{Event}
 use Rattle.dsql_laws_calls.specs.history.declared.event.Event.TheVariants.{Entered, Heard}
 use Rattle.dsql_laws_calls.specs.history.declared.work.Scope.{Scope}
-use Rattle.dsql_laws_calls.specs.history.declared.work.Scope.TheVariants.{Db, Tx}
+use Rattle.dsql_laws_calls.specs.history.declared.work.Scope.TheVariants.{Db, Held}
 use Rattle.dsql_laws_calls.specs.history.declared.work.Work.{Work}
-use Rattle.dsql_laws_calls.specs.history.declared.work.Work.TheVariants.{Execute, ReadOne, HandOut, Fetch, Close, End}
+use Rattle.dsql_laws_calls.specs.history.declared.work.Task.TheVariants.{HandOut}
+use Rattle.dsql_laws_calls.specs.history.declared.work.Work.TheVariants.{Statement, Fetch, Close, End}
 use Rattle.dsql_laws_calls.specs.history.Readers.HandedOut.{rows_by}
 use Rattle.dsql_laws_calls.specs.history.Readers.Journals.{journal}
 use Rattle.dsql_laws_calls.specs.history.Readers.Lines.{has_sent}
@@ -47,9 +48,9 @@ under_way H e l some =
     let s = sound H l.0 in
     s.coming e (comes H e (place H e.conn) there.sets there.line (other_number e.call_no 0 some))
 
-handed_in : (w : Work) (k : ℕ) → hands_out w ≡ true → scope w ≡ Tx k → hands_out_in k w ≡ true
-handed_in (HandOut (Tx j) label) k h is = let same : j ≡ k = cc in ap (λ i. i == k) same ∙ same_itself k
-handed_in (HandOut Db label) k h is = absurd cc
+handed_in : (w : Work) (k : ℕ) → hands_out w ≡ true → scope w ≡ Held k → hands_out_in k w ≡ true
+handed_in (Statement (Held j) (HandOut label)) k h is = let same : j ≡ k = cc in ap (λ i. i == k) same ∙ same_itself k
+handed_in (Statement Db (HandOut label)) k h is = absurd cc
 handed_in w k h is = absurd cc
 
 ends_none : (H : List Event) (e : Entry) (k : ℕ) → Lawful H → (u : UnderWay H e) → borrower H e.call_no ≡ number_of u.owner → work H e.call_no ≡ End k → Why H e.conn e.tenure u.owner e.call_no → is_begun H (borrower H e.call_no) ≡ true
@@ -70,21 +71,19 @@ begun_now H e l some is_in = by (work H e.call_no) refl is_in
     u : UnderWay H e
     u = under_way H e l some
 
-    within : (k : ℕ) → scope (work H e.call_no) ≡ Tx k → is_begun H (borrower H e.call_no) ≡ true
+    within : (k : ℕ) → scope (work H e.call_no) ≡ Held k → is_begun H (borrower H e.call_no) ≡ true
     within k is =
         let there = heard_there H e l.1 in
         let i = inside H l.0 in
         ap (is_begun H) (inside_uses H e.call_no k is) ∙ i.coming e k (comes H e (place H e.conn) there.sets there.line (other_number e.call_no 0 some)) is
 
     over_rows : (j : ℕ) → borrower H e.call_no ≡ borrower_in (scope (work H j)) j → is_some (rows_by H j) ≡ true → (s : Scope) → scope (work H j) ≡ s → is_inside s ≡ true → is_begun H (borrower H e.call_no) ≡ true
-    over_rows j uses made (Tx k) is x =
+    over_rows j uses made (Held k) is x =
         ap (is_begun H) (uses ∙ ap (λ s. borrower_in s j) is) ∙ rows_begun H j k l.0 made (handed_in (work H j) k (rows_hand_out H j made) is)
     over_rows j uses made Db is x = absurd cc
 
     by : (w : Work) → work H e.call_no ≡ w → work_inside H w ≡ true → is_begun H (borrower H e.call_no) ≡ true
-    by (Execute (Tx k)) is x = within k (ap scope is)
-    by (ReadOne (Tx k) dests) is x = within k (ap scope is)
-    by (HandOut (Tx k) label) is x = within k (ap scope is)
+    by (Statement (Held k) task) is x = within k (ap scope is)
     by (Fetch j) is x = over_rows j (rw is refl) (u.rowed j (inl is)) (scope (work H j)) refl x
     by (Close j) is x = over_rows j (rw is refl) (u.rowed j (inr is)) (scope (work H j)) refl x
     by (End k) is x = ends_none H e k l.0 u (u.borrowed some) is u.why

@@ -21,9 +21,10 @@ use Rattle.dsql_laws_calls.specs.history.Readers.HandedOut.{are_over, ender, row
 use Rattle.dsql_laws_calls.proofs.laws.Tests.{same_itself, same_number}
 use Rattle.dsql_engine_exchanged.specs.Filled.{carries_statement}
 use Rattle.dsql_laws_calls.specs.history.declared.event.Event.{Event}
-use Rattle.dsql_laws_calls.specs.history.declared.work.Scope.TheVariants.{Db, Tx}
+use Rattle.dsql_laws_calls.specs.history.declared.work.Scope.TheVariants.{Db, Held}
 use Rattle.dsql_laws_calls.specs.history.declared.work.Work.{Work}
-use Rattle.dsql_laws_calls.specs.history.declared.work.Work.TheVariants.{HandOut}
+use Rattle.dsql_laws_calls.specs.history.declared.work.Task.TheVariants.{HandOut}
+use Rattle.dsql_laws_calls.specs.history.declared.work.Work.TheVariants.{Statement}
 use Rattle.dsql_laws_calls.specs.history.Readers.Calls.{site}
 use Rattle.dsql_laws_calls.specs.history.Readers.Course.{caps}
 use Rattle.dsql_laws_calls.specs.history.Readers.Journals.{heard_in, journal}
@@ -52,7 +53,7 @@ use Rattle.dsql_engine_lines.proofs.Unstated.{inner_unstated, is_unstated, line_
 
 -- What is sent in the line of a query that handed out its rows.
 
-in_tx : (H : List Event) (n c t k : ℕ) (own : Owner) (wish : Wish) → Lawful H → place H c ≡ Some (Lent t own) → number_of own ≡ k → scope (work H n) ≡ Tx k → hands_out_in k (work H n) ≡ true → is_some (rows_by H n) ≡ true
+in_tx : (H : List Event) (n c t k : ℕ) (own : Owner) (wish : Wish) → Lawful H → place H c ≡ Some (Lent t own) → number_of own ≡ k → scope (work H n) ≡ Held k → hands_out_in k (work H n) ≡ true → is_some (rows_by H n) ≡ true
     → is_unstated (line_there H c t own n wish) ≡ true
 in_tx H n c t k own wish l is number inner hands made =
     let begins_it = begun_begins H k l (rows_begun H n k l made hands) in
@@ -63,7 +64,7 @@ in_tx H n c t k own wish l is number inner hands made =
     ap is_unstated (inner_is H c t own n wish k other inner)
     ∙ inner_unstated (untested (caps H)) (went_bad (journal H c)) (asked_by H n) wish line (handed (asked_by H n).aim line) given
 
-on_db : (H : List Event) (n c t : ℕ) (own : Owner) (label : List ℕ) (wish : Wish) → Lawful H → place H c ≡ Some (Lent t own) → number_of own ≡ n → work H n ≡ HandOut Db label → is_some (rows_by H n) ≡ true
+on_db : (H : List Event) (n c t : ℕ) (own : Owner) (label : List ℕ) (wish : Wish) → Lawful H → place H c ≡ Some (Lent t own) → number_of own ≡ n → work H n ≡ Statement Db (HandOut label) → is_some (rows_by H n) ≡ true
     → is_unstated (line_there H c t own n wish) ≡ true
 on_db H n c t own label wish l is number hands made =
     let of_it = owner_is_of H c t own l is in
@@ -79,8 +80,8 @@ pub rows_unstated : (H : List Event) (n : ℕ) (wish : Wish) → Lawful H → is
 rows_unstated H n wish l made = at (site H n) (place H (site H n)) refl
   where
     there : (c t : ℕ) (own : Owner) → place H c ≡ Some (Lent t own) → number_of own ≡ borrower H n → (w : Work) → work H n ≡ w → hands_out w ≡ true → is_unstated (line_there H c t own n wish) ≡ true
-    there c t own is number (HandOut Db label) its h = on_db H n c t own label wish l is (number ∙ rw its refl) its made
-    there c t own is number (HandOut (Tx k) label) its h =
+    there c t own is number (Statement Db (HandOut label)) its h = on_db H n c t own label wish l is (number ∙ rw its refl) its made
+    there c t own is number (Statement (Held k) (HandOut label)) its h =
         in_tx H n c t k own wish l is (number ∙ rw its refl) (ap scope its) (ap (hands_out_in k) its ∙ same_itself k) made
     there c t own is number w its h = absurd cc
 

@@ -11,7 +11,7 @@ use Rattle.dsql_laws_calls.specs.history.declared.work.Work.{Work}
 use Rattle.dsql_laws_calls.specs.history.declared.work.Work.TheVariants.{Look, Fetch, Close, End}
 use Rattle.dsql_laws_calls.specs.history.Readers.Works.{is_in, scope, works, work}
 use Rattle.dsql_laws_calls.specs.history.declared.work.Scope.{Scope}
-use Rattle.dsql_laws_calls.specs.history.declared.work.Scope.TheVariants.{Db, Tx}
+use Rattle.dsql_laws_calls.specs.history.declared.work.Scope.TheVariants.{Db, Held}
 
 -- The line of each call, by the call's number, and the calls that have a cursor or a handle open.
 pub record InTransactions : Type 0 where
@@ -62,7 +62,7 @@ lines (_ ∷ before) = lines before
 
 abbrev pub is_inside : Scope → Bool
 is_inside Db = false
-is_inside (Tx k) = true
+is_inside (Held k) = true
 
 -- Is true if a call with this work works in a transaction: it runs a text there, works over its rows, or ends
 -- it.

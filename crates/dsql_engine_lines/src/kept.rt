@@ -9,7 +9,7 @@ ghost use Rattle.dsql_engine_exchanged.specs.Beginning.{beginning_in};
 ghost use Rattle.dsql_engine_exchanged.specs.Ending.{ending_in};
 ghost use Rattle.dsql_engine_exchanged.specs.Heard.{heard_line};
 ghost use Rattle.dsql_laws_calls.specs.history.declared.event.Event.{Event};
-ghost use Rattle.dsql_laws_calls.specs.history.declared.work.Scope.TheVariants.{Tx as InTx};
+ghost use Rattle.dsql_laws_calls.specs.history.declared.work.Scope.TheVariants.{Held as InTx};
 ghost use Rattle.dsql_laws_calls.specs.history.Readers.Journals.{heard_in, journal};
 ghost use Rattle.dsql_laws_calls.specs.history.Readers.Lines.{line_among};
 ghost use Rattle.dsql_laws_calls.specs.history.Readers.Pool.{place};

@@ -23,4 +23,4 @@ pub use event::{Control, Event, Op, Setting, Target};
 pub use limits::MAX_EVENTS;
 pub use record::{CallRecord, Flight, Stand, Try};
 pub use reply::{DbEnd, Reply};
-pub use work::{Scope, Work};
+pub use work::{Scope, Task, Work};

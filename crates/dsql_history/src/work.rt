@@ -1,22 +1,29 @@
 use dsql_history_work::{Dests, Label, Level};
 
-/// The place in which a call's statement is carried out: a connection of the call's own, or the transaction
-/// that this call began. The number is 0 if no transaction has the label.
+/// Where a call's statement is carried out: on a connection of the call's own, or on the one that this call holds for
+/// its transaction. The number is 0 if no transaction has the label.
 #[derive(Clone, Copy, Debug, PartialEq, Eq)]
 pub enum Scope {
     Db,
-    Tx(u32),
+    Held(u32),
+}
+
+/// What becomes of a statement.
+#[derive(Drop)]
+pub enum Task {
+    /// It is executed.
+    Execute,
+    /// It is queried, and one row is read into these destinations.
+    ReadOne(Dests),
+    /// It is queried, and the rows are handed out under this label.
+    HandOut(Label),
 }
 
 /// The work that a call has to do.
 #[derive(Drop)]
 pub enum Work {
-    /// It executes a text.
-    Execute(Scope),
-    /// It queries a text and reads one row into these destinations.
-    ReadOne(Scope, Dests),
-    /// It queries a text and hands out the rows under this label.
-    HandOut(Scope, Label),
+    /// It carries out a statement in this scope.
+    Statement(Scope, Task),
     /// It begins a transaction on a connection of its own, and hands out the transaction under this label.
     Begin {
         label: Label,

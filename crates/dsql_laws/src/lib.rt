@@ -8,5 +8,5 @@ pub use dsql_history::{
     Aim, Args, AskFault, Asked, CallRecord, Caps, Conn, Control, DbEnd, Dest, Dests, DriverAnswer,
     DriverCall, Entry, Event, Fate, Fleet, Flight, Items, Label, Level, MAX_EVENTS, MOST_OPEN,
     Memory, Move, Op, Owner, Past, Permit, Place, Planned, Pool, Reply, Request, RowsFault,
-    RowsTable, Scope, Setting, Stand, Target, TxEnd, Txs, Txt, Wire, Wish, Work,
+    RowsTable, Scope, Setting, Stand, Target, Task, TxEnd, Txs, Txt, Wire, Wish, Work,
 };

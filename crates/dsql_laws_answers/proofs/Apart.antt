@@ -21,9 +21,9 @@ use Rattle.dsql_laws_others.proofs.Settling.{each_stands}
 use Rattle.dsql_laws_calls.specs.history.declared.event.Event.{Event}
 use Rattle.dsql_laws_calls.specs.history.declared.event.Event.TheVariants.{Pool}
 use Rattle.dsql_laws_calls.specs.history.declared.work.Scope.{Scope}
-use Rattle.dsql_laws_calls.specs.history.declared.work.Scope.TheVariants.{Db, Tx}
+use Rattle.dsql_laws_calls.specs.history.declared.work.Scope.TheVariants.{Db, Held}
 use Rattle.dsql_laws_calls.specs.history.declared.work.Work.{Work}
-use Rattle.dsql_laws_calls.specs.history.declared.work.Work.TheVariants.{Execute, ReadOne, HandOut, Begin, End, Ping, Fetch, Close, Look}
+use Rattle.dsql_laws_calls.specs.history.declared.work.Work.TheVariants.{Statement, Begin, End, Ping, Fetch, Close, Look}
 use Rattle.dsql_laws_calls.specs.history.Readers.Calls.{site, decided, done_with, has_begun_to_send, told_by_tries, told_by_scope, told_of_work, told_by_others, asks_nothing, rests, rests_with}
 use Rattle.dsql_laws_calls.specs.history.Readers.Course.{caps}
 use Rattle.dsql_laws_calls.specs.history.Readers.Journals.{journal}
@@ -165,7 +165,7 @@ homeless H k l begun out = by (find (λ (x : Conn). is_home k x.place) (pool H).
             absurd (omega (arith, none, counted, one))
 
 -- A call in a transaction that has begun to send after the move had begun before.
-begun_before : (H : List Event) (move : Move) (c m k : ℕ) → Unlent H move c → scope (work H m) ≡ Tx k → has_begun_to_send (Pool move ∷ H) m ≡ true → has_begun_to_send H m ≡ true
+begun_before : (H : List Event) (move : Move) (c m k : ℕ) → Unlent H move c → scope (work H m) ≡ Held k → has_begun_to_send (Pool move ∷ H) m ≡ true → has_begun_to_send H m ≡ true
 begun_before H move c m k u is h = by (homes_stay H move c u k)
   where
     K : List Event
@@ -201,16 +201,14 @@ told_apart H move c j u tried h = by (work H j) refl h
 
     in_scope : (w : Work) (s : Scope) → scope (work H j) ≡ s → is_some (told_by_scope H j w s) ≡ true → is_some (told_by_scope K j w s) ≡ true
     in_scope w Db is x = own w x
-    in_scope w (Tx k) is x = fewer (has_begun_to_send K j) (has_begun_to_send H j) k (begun_before H move c j k u is) x
+    in_scope w (Held k) is x = fewer (has_begun_to_send K j) (has_begun_to_send H j) k (begun_before H move c j k u is) x
 
     by : (w : Work) → work H j ≡ w → is_some (told_of_work H j w) ≡ true → is_some (told_of_work K j w) ≡ true
     by (Fetch k) is x = x
     by (Close k) is x = x
     by (End k) is x = absurd cc
     by Look is x = absurd cc
-    by (Execute s) is x = in_scope (Execute s) s (ap scope is) x
-    by (ReadOne s dests) is x = in_scope (ReadOne s dests) s (ap scope is) x
-    by (HandOut s label) is x = in_scope (HandOut s label) s (ap scope is) x
+    by (Statement s task) is x = in_scope (Statement s task) s (ap scope is) x
     by (Begin label level read_only) is x = own (Begin label level read_only) x
     by Ping is x = own Ping x
 

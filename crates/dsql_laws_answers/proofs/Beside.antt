@@ -12,9 +12,9 @@ use Rattle.dsql_laws_calls.specs.history.declared.event.Event.TheVariants.{Heard
 use Rattle.dsql_laws_calls.specs.history.declared.reply.Reply.{Reply}
 use Rattle.dsql_laws_calls.specs.history.declared.reply.Reply.TheVariants.{Truth}
 use Rattle.dsql_laws_calls.specs.history.declared.work.Scope.{Scope}
-use Rattle.dsql_laws_calls.specs.history.declared.work.Scope.TheVariants.{Db, Tx}
+use Rattle.dsql_laws_calls.specs.history.declared.work.Scope.TheVariants.{Db, Held}
 use Rattle.dsql_laws_calls.specs.history.declared.work.Work.{Work}
-use Rattle.dsql_laws_calls.specs.history.declared.work.Work.TheVariants.{Execute, ReadOne, HandOut, Begin, End, Ping, Fetch, Close, Look}
+use Rattle.dsql_laws_calls.specs.history.declared.work.Work.TheVariants.{Statement, Begin, End, Ping, Fetch, Close, Look}
 use Rattle.dsql_laws_calls.specs.history.Readers.Calls.{site, decided, done_with, has_begun_to_send, told_by_tries, told_by_scope, told_of_work, told_by_others, asks_nothing, rests, rests_with}
 use Rattle.dsql_laws_calls.specs.history.Readers.Course.{caps}
 use Rattle.dsql_laws_calls.specs.history.Readers.HandedOut.{is_late, are_over}
@@ -61,13 +61,13 @@ over_same H e k = by (heard_tx H e k)
 
 pub late_same : (H : List Event) (e : Entry) (s : Scope) → is_late (Heard e ∷ H) s ≡ is_late H s
 late_same H e Db = refl
-late_same H e (Tx k) = over_same H e k
+late_same H e (Held k) = over_same H e k
 
 -- What others have settled for the other call stays settled.
 
 told_inside : (H : List Event) (e : Entry) (m : ℕ) (w : Work) (s : Scope) → Beside H e m → is_some (told_by_scope H m w s) ≡ true → is_some (told_by_scope (Heard e ∷ H) m w s) ≡ true
 told_inside H e m w Db b h = ap (λ ts. is_some (told_by_tries (Heard e ∷ H) w ts)) (tried_same H e m b) ∙ h
-told_inside H e m w (Tx k) b h =
+told_inside H e m w (Held k) b h =
     ap (λ x. is_some (cond x None (done_with (tx_end (Heard e ∷ H) k)))) (sent_same H e m (site H m) b.other) ∙ by (has_begun_to_send H m) h
   where
     done : (o : Option TxEnd) → is_some (done_with o) ≡ is_some o
@@ -91,9 +91,7 @@ told_still H e m b h = by (work H m) h
     by (Close k) x = x
     by (End k) x = absurd cc
     by Look x = absurd cc
-    by (Execute s) x = told_inside H e m (Execute s) s b x
-    by (ReadOne s dests) x = told_inside H e m (ReadOne s dests) s b x
-    by (HandOut s label) x = told_inside H e m (HandOut s label) s b x
+    by (Statement s task) x = told_inside H e m (Statement s task) s b x
     by (Begin label level read_only) x = told_inside H e m (Begin label level read_only) Db b x
     by Ping x = told_inside H e m Ping Db b x
 

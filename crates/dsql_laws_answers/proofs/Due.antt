@@ -17,9 +17,9 @@ use Rattle.dsql_laws_calls.proofs.Found.{uses_in, changed_place, changed_off, go
 use Rattle.dsql_laws_calls.specs.history.declared.event.Event.{Event}
 use Rattle.dsql_laws_calls.specs.history.declared.event.Event.TheVariants.{Pool}
 use Rattle.dsql_laws_calls.specs.history.declared.work.Scope.{Scope}
-use Rattle.dsql_laws_calls.specs.history.declared.work.Scope.TheVariants.{Db, Tx}
+use Rattle.dsql_laws_calls.specs.history.declared.work.Scope.TheVariants.{Db, Held}
 use Rattle.dsql_laws_calls.specs.history.declared.work.Work.{Work}
-use Rattle.dsql_laws_calls.specs.history.declared.work.Work.TheVariants.{Execute, ReadOne, HandOut, Begin, End, Ping, Fetch, Close, Look}
+use Rattle.dsql_laws_calls.specs.history.declared.work.Work.TheVariants.{Statement, Begin, End, Ping, Fetch, Close, Look}
 use Rattle.dsql_laws_calls.specs.history.Readers.Calls.{site, decided, has_begun_to_send}
 use Rattle.dsql_laws_calls.specs.history.Readers.Course.{caps}
 use Rattle.dsql_laws_calls.specs.history.Readers.HandedOut.{is_late, are_live, ender}
@@ -146,7 +146,7 @@ due_before H move c t own m l before after some uses h = started (is_unfinished 
 
     inside : (v : Scope) → due_inside K m v ≡ due_inside H m v
     inside Db = line
-    inside (Tx k) = ap (λ b. cond (b || (goes_on H k && is_none (decided H m))) (line_of K m wishes.Nothing) None) begun ∙ ap (λ d. cond (sends_in H m k) d None) line
+    inside (Held k) = ap (λ b. cond (b || (goes_on H k && is_none (decided H m))) (line_of K m wishes.Nothing) None) begun ∙ ap (λ d. cond (sends_in H m k) d None) line
 
     wished : (k : ℕ) → wish K m k ≡ wish H m k
     wished k =
@@ -170,9 +170,7 @@ due_before H move c t own m l before after some uses h = started (is_unfinished 
         ends_uses : work H m ≡ End k → borrower H m ≡ k
         ends_uses it = rw it refl
     by Look is x = absurd cc
-    by (Execute v) is x = ap (λ d. is_some d) (sym (inside v)) ∙ x
-    by (ReadOne v dests) is x = ap (λ d. is_some d) (sym (inside v)) ∙ x
-    by (HandOut v label) is x = ap (λ d. is_some d) (sym (inside v)) ∙ x
+    by (Statement v task) is x = ap (λ d. is_some d) (sym (inside v)) ∙ x
     by (Begin label level read_only) is x = ap (λ d. is_some d) (sym line) ∙ x
     by Ping is x = ap (λ d. is_some d) (sym line) ∙ x
 

@@ -24,7 +24,8 @@ use Rattle.dsql_laws_calls.specs.history.declared.event.Event.{Event}
 use Rattle.dsql_laws_calls.specs.history.declared.event.Event.TheVariants.{Heard}
 use Rattle.dsql_laws_calls.specs.history.declared.work.Scope.{Scope}
 use Rattle.dsql_laws_calls.specs.history.declared.work.Work.{Work}
-use Rattle.dsql_laws_calls.specs.history.declared.work.Work.TheVariants.{HandOut, Fetch, Look}
+use Rattle.dsql_laws_calls.specs.history.declared.work.Task.TheVariants.{HandOut}
+use Rattle.dsql_laws_calls.specs.history.declared.work.Work.TheVariants.{Statement, Fetch, Look}
 use Rattle.dsql_laws_calls.specs.history.Readers.Calls.{site, asks_nothing, rests}
 use Rattle.dsql_laws_calls.specs.history.Readers.Course.{caps}
 use Rattle.dsql_laws_calls.specs.history.Readers.Pool.{place, home}
@@ -79,8 +80,8 @@ rows_off H e t own j h off = by (work H e.call_no) refl e.call e.answer
     sender : (w : Work) → work H e.call_no ≡ w → (w ≡ Look → ⊥) → borrower H e.call_no ≡ number_of own
     sender w is busy = sender_uses H e t own h (λ none. busy (sym is ∙ ap (work H) none ∙ zero_work H))
 
-    queried : (s : Scope) (label : List ℕ) → work H e.call_no ≡ HandOut s label → j ≢ e.call_no
-    queried s label is same = off (ap (borrower H) same ∙ sender (HandOut s label) is (λ x. cc))
+    queried : (s : Scope) (label : List ℕ) → work H e.call_no ≡ Statement s (HandOut label) → j ≢ e.call_no
+    queried s label is same = off (ap (borrower H) same ∙ sender (Statement s (HandOut label)) is (λ x. cc))
 
     unmade : (a : DriverAnswer) (o : Option Rows) → is_some o ≡ false → option_map (fetched a) o ≡ o
     unmade a None none = refl
@@ -90,7 +91,7 @@ rows_off H e t own j h off = by (work H e.call_no) refl e.call e.answer
     uses k is hands = from (work H k) refl hands
       where
         from : (w : Work) → work H k ≡ w → hands_out w ≡ true → borrower H k ≡ number_of own
-        from (HandOut s label) its x =
+        from (Statement s (HandOut label)) its x =
             let own_one : borrower H k ≡ borrower H e.call_no = rw (is, its) refl in
             own_one ∙ sender (Fetch k) is (λ y. cc)
         from w its x = absurd cc
@@ -106,7 +107,7 @@ rows_off H e t own j h off = by (work H e.call_no) refl e.call e.answer
             ap (λ i. rows_of j (changed (fetched a) i (handed_out H))) (sym same) ∙ (l.changes (fetched a) j (handed_out H) ∙ unmade a (rows_by H j) none)
 
     by : (w : Work) → work H e.call_no ≡ w → (q : DriverCall) (a : DriverAnswer) → rows_of j (rows_heard H w e.call_no q a (handed_out H)) ≡ rows_by H j
-    by (HandOut s label) is (Query input params) (Cursor cursor columns) =
+    by (Statement s (HandOut label)) is (Query input params) (Cursor cursor columns) =
         let l = numbered_things {X = Rows} in l.others_beside_new e.call_no j (born (is_late H s) (fresh cursor columns)) (handed_out H) (queried s label is)
     by (Fetch k) is (Next cursor) a = fetches k a is (same_or_not j k)
     by w is q a = refl

@@ -21,7 +21,7 @@ use Rattle.dsql_laws_calls.specs.history.declared.event.Target.TheVariants as ta
 use Rattle.dsql_laws_calls.specs.history.declared.reply.Reply.{Reply}
 use Rattle.dsql_laws_calls.specs.history.declared.reply.Reply.TheVariants.{Absent}
 use Rattle.dsql_laws_calls.specs.history.declared.reply.Reply.TheVariants as reply
-use Rattle.dsql_laws_calls.specs.history.declared.work.Scope.TheVariants.{Tx}
+use Rattle.dsql_laws_calls.specs.history.declared.work.Scope.TheVariants.{Held}
 use Rattle.dsql_laws_calls.specs.history.Readers.Calls.{told_at_entry, done_with, tx_refused, site, decided}
 use Rattle.dsql_laws_calls.specs.history.Readers.Decisions.{rows_reply}
 use Rattle.dsql_laws_calls.specs.history.Readers.Journals.{journal}
@@ -88,7 +88,7 @@ own_silent H client n op s same asking due =
     let as_before : lent_count n (pool (Entered client n op ∷ H)) ≡ lent_count n (pool H) = ap (lent_count n) same in
     absurd (omega (arith, many, none, as_before))
 
-inner_silent : (H : List Event) (client n : ℕ) (op : Op) (k : ℕ) → Told H client n op → is_some (due_inside (Entered client n op ∷ H) n (Tx k)) ≡ true → ⊥
+inner_silent : (H : List Event) (client n : ℕ) (op : Op) (k : ℕ) → Told H client n op → is_some (due_inside (Entered client n op ∷ H) n (Held k)) ≡ true → ⊥
 inner_silent H client n op k s due = by (has_sent n (journal H (site K n))) refl due
   where
     K : List Event

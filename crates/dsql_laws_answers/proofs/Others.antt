@@ -27,9 +27,10 @@ use Rattle.dsql_laws_others.proofs.Settling.{somewhere, each_stands}
 use Rattle.dsql_laws_calls.specs.history.declared.event.Event.{Event}
 use Rattle.dsql_laws_calls.specs.history.declared.event.Event.TheVariants.{Heard}
 use Rattle.dsql_laws_calls.specs.history.declared.reply.Reply.{Reply}
-use Rattle.dsql_laws_calls.specs.history.declared.work.Scope.TheVariants.{Db, Tx}
+use Rattle.dsql_laws_calls.specs.history.declared.work.Scope.TheVariants.{Db, Held}
 use Rattle.dsql_laws_calls.specs.history.declared.work.Work.{Work}
-use Rattle.dsql_laws_calls.specs.history.declared.work.Work.TheVariants.{Execute, ReadOne, HandOut, Begin, End, Ping, Fetch, Close, Look}
+use Rattle.dsql_laws_calls.specs.history.declared.work.Task.TheVariants.{HandOut}
+use Rattle.dsql_laws_calls.specs.history.declared.work.Work.TheVariants.{Statement, Begin, End, Ping, Fetch, Close, Look}
 use Rattle.dsql_laws_calls.specs.history.Readers.Calls.{site, decided, told_of_work, told_by_others, told_as_lent, told_at_lending, asks_nothing, rests, rests_with, reply_due, has_begun_to_send}
 use Rattle.dsql_laws_calls.specs.history.Readers.Course.{caps}
 use Rattle.dsql_laws_calls.specs.history.Readers.HandedOut.{rows_by, is_late, are_live}
@@ -131,7 +132,7 @@ own_goes H e t own m b none asking h = by (same_or_not e.conn (site H m))
         from_reply H e t own m b none (λ pings. clash (sym hands ∙ ap hands_out pings)) (λ due. served_replies K m lawful b.beside.unfinished (ap was_served (tried_same H e m b.beside) ∙ served hands) due)
       where
         call_of : (w : Work) (n : ℕ) → hands_out w ≡ true → is_call (owner_as w n) ≡ true
-        call_of (HandOut s label) n x = refl
+        call_of (Statement s (HandOut label)) n x = refl
         call_of w n x = absurd cc
 
         served : hands_out (work H m) ≡ true → was_served (tries H m) ≡ true
@@ -204,7 +205,7 @@ undecided_goes H e t own m b none h replies = by (work H m) refl
     lawful : Lawful (Heard e ∷ H)
     lawful = let hl = b.heard in hl.lawful
 
-    inner : (w : Work) (k : ℕ) → work H m ≡ w → scope w ≡ Tx k → (w ≡ Ping → ⊥) → (is_some (due_for K m) ≡ true) ⊎ (is_settled_for K m ≡ true)
+    inner : (w : Work) (k : ℕ) → work H m ≡ w → scope w ≡ Held k → (w ≡ Ping → ⊥) → (is_some (due_for K m) ≡ true) ⊎ (is_settled_for K m ≡ true)
     inner w k is s other = from_reply H e t own m b none (λ pings. other (sym is ∙ pings)) (λ due. inside_replies K m k lawful b.beside.unfinished (ap scope is ∙ s) due)
 
     own_one : (w : Work) → work H m ≡ w → asks w ≡ true → (is_some (due_for K m) ≡ true) ⊎ (is_settled_for K m ≡ true)
@@ -225,14 +226,10 @@ undecided_goes H e t own m b none h replies = by (work H m) refl
         ends_not : End k ≡ Ping → ⊥
         ends_not x = cc
     by Look is = absurd (due_busy H m h is)
-    by (Execute Db) is = own_one (Execute Db) is refl
-    by (ReadOne Db dests) is = own_one (ReadOne Db dests) is refl
-    by (HandOut Db label) is = own_one (HandOut Db label) is refl
+    by (Statement Db task) is = own_one (Statement Db task) is refl
     by (Begin label level read_only) is = own_one (Begin label level read_only) is refl
     by Ping is = own_one Ping is refl
-    by (Execute (Tx k)) is = inner (Execute (Tx k)) k is refl (λ x. cc)
-    by (ReadOne (Tx k) dests) is = inner (ReadOne (Tx k) dests) k is refl (λ x. cc)
-    by (HandOut (Tx k) label) is = inner (HandOut (Tx k) label) k is refl (λ x. cc)
+    by (Statement (Held k) task) is = inner (Statement (Held k) task) k is refl (λ x. cc)
 
 -- A call that has settled its reply and has more to send isn't under way there, or rests.
 

@@ -37,7 +37,8 @@ use Rattle.dsql_laws_calls.proofs.laws_work.Rows.{same_or_not}
 use Rattle.dsql_laws_calls.specs.history.declared.event.Event.{Event}
 use Rattle.dsql_laws_calls.specs.history.declared.event.Event.TheVariants.{Run, Entered, Heard, Pool, Waits, Ticked, SetLimit, Replied, Ended}
 use Rattle.dsql_laws_calls.specs.history.declared.work.Work.{Work}
-use Rattle.dsql_laws_calls.specs.history.declared.work.Work.TheVariants.{HandOut, Fetch}
+use Rattle.dsql_laws_calls.specs.history.declared.work.Task.TheVariants.{HandOut}
+use Rattle.dsql_laws_calls.specs.history.declared.work.Work.TheVariants.{Statement, Fetch}
 use Rattle.dsql_laws_calls.specs.history.Readers.Course.{caps}
 use Rattle.dsql_laws_calls.specs.history.Readers.Journals.{heard_in}
 use Rattle.dsql_laws_calls.specs.history.Readers.Pool.{place}
@@ -119,8 +120,8 @@ read_still s r a (Some rows) h fit heard lives = absurd cc
 -- A query that makes the rows opens the line.
 
 opened : (H : List Event) (w : Work) (m : ℕ) (q : DriverCall) (a : DriverAnswer) (n : ℕ) (s : Step) (R : Made) → is_some (rows_of n (rows_heard H w m q a R)) ≡ true → (is_some (rows_of n R) ≡ true) ⊎ (is_holding (step_after s q a) ≡ true)
-opened H (HandOut x label) m (Query (Text text) params) (Cursor cursor columns) n s R h = inr refl
-opened H (HandOut x label) m (Query (Handle handle) params) (Cursor cursor columns) n s R h = inr refl
+opened H (Statement x (HandOut label)) m (Query (Text text) params) (Cursor cursor columns) n s R h = inr refl
+opened H (Statement x (HandOut label)) m (Query (Handle handle) params) (Cursor cursor columns) n s R h = inr refl
 opened H (Fetch k) m (Next cursor) a n s R h = inl (sym (some_changed (fetched a) k n R) ∙ h)
 opened H _ m q a n s R h = inl h
 
@@ -150,7 +151,7 @@ heard_open H e c t own l o here was holds lives = by e.call refl over_it
     aim = of (work H n) hands
       where
         of : (w : Work) → hands_out w ≡ true → aim_of w ≡ aims.HandOut
-        of (HandOut s label) x = refl
+        of (Statement s (HandOut label)) x = refl
         of w x = absurd cc
 
     sent : OwnSent H e own
@@ -275,9 +276,9 @@ own_live_line H n w l lives asking wanted = from (one (rows_by H n) lives)
             ∙ held_due (caps H) (is_reset_due H (site H n)) (asked_by H (number_of k.owner)) w L opens.cursor opens.handed_it m holds wanted
           where
             call_of : (v : Work) (i : ℕ) → hands_out v ≡ true → is_call (owner_as v i) ≡ true
-            call_of (HandOut x label) i h = refl
+            call_of (Statement x (HandOut label)) i h = refl
             call_of v i h = absurd cc
 
             aim_is : (v : Work) → hands_out v ≡ true → aim_of v ≡ aims.HandOut
-            aim_is (HandOut x label) h = refl
+            aim_is (Statement x (HandOut label)) h = refl
             aim_is v h = absurd cc

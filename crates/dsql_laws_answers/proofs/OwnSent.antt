@@ -11,9 +11,10 @@ use Rattle.dsql_laws_calls.specs.pool.declared.conn.Place.TheVariants.{Lent}
 use Rattle.dsql_laws_calls.specs.history.Rules.Wishes.{wish_as}
 use Rattle.dsql_laws_calls.proofs.laws.Tests.{both, same_itself, same_number}
 use Rattle.dsql_laws_calls.specs.history.declared.event.Event.{Event}
-use Rattle.dsql_laws_calls.specs.history.declared.work.Scope.TheVariants.{Db, Tx}
+use Rattle.dsql_laws_calls.specs.history.declared.work.Scope.TheVariants.{Db, Held}
 use Rattle.dsql_laws_calls.specs.history.declared.work.Work.{Work}
-use Rattle.dsql_laws_calls.specs.history.declared.work.Work.TheVariants.{Execute, ReadOne, HandOut, Begin, End, Ping, Fetch, Close, Look}
+use Rattle.dsql_laws_calls.specs.history.declared.work.Task.TheVariants.{HandOut}
+use Rattle.dsql_laws_calls.specs.history.declared.work.Work.TheVariants.{Statement, Begin, End, Ping, Fetch, Close, Look}
 use Rattle.dsql_laws_calls.specs.history.Readers.Calls.{decided}
 use Rattle.dsql_laws_calls.specs.history.Readers.HandedOut.{rows_by, are_live, are_over, ender}
 use Rattle.dsql_laws_calls.specs.history.Readers.Pool.{place}
@@ -119,13 +120,13 @@ sent_now H e own o may now = whose (e.call_no == 0) refl (subst (λ x. is_due (d
     rows_of_it j made at = by (work H j) refl (rows_hand_out H j made)
       where
         by : (w : Work) → work H j ≡ w → hands_out w ≡ true → j ≡ n
-        by (HandOut Db label) is x = let own_one : borrower H j ≡ j = rw is refl in sym own_one ∙ at
-        by (HandOut (Tx k) label) is x =
+        by (Statement Db (HandOut label)) is x = let own_one : borrower H j ≡ j = rw is refl in sym own_one ∙ at
+        by (Statement (Held k) (HandOut label)) is x =
             let in_it : borrower H j ≡ k = rw is refl in
             unbegun H e own k o (sym in_it ∙ at) (rows_begun H j k o.lawful made (ap (hands_out_in k) is ∙ same_itself k))
         by w is x = absurd cc
 
-    inner_one : (k : ℕ) → scope (work H e.call_no) ≡ Tx k → e.call_no ≢ 0 → OwnSent H e own
+    inner_one : (k : ℕ) → scope (work H e.call_no) ≡ Held k → e.call_no ≢ 0 → OwnSent H e own
     inner_one k inner some = let i = inside H o.lawful in unbegun H e own k o (sym (inside_uses H e.call_no k inner) ∙ uses some) (i.coming e k may inner)
 
     own_one : (v : Work) → work H e.call_no ≡ v → e.call_no ≢ 0 → asks v ≡ true → is_due (due_in H e.call_no v) e.call ≡ true → OwnSent H e own
@@ -153,14 +154,10 @@ sent_now H e own o may now = whose (e.call_no == 0) refl (subst (λ x. is_due (d
         ends true y = let at : borrower H e.call_no ≡ k = rw is refl in unbegun H e own k o (sym at ∙ uses some) (over_begun H k (ending_over H k (some_due (ending H k) e.call y)))
         ends false y = absurd cc
     works Look is some zero x = absurd cc
-    works (Execute Db) is some zero x = own_one (Execute Db) is some refl x
-    works (ReadOne Db dests) is some zero x = own_one (ReadOne Db dests) is some refl x
-    works (HandOut Db label) is some zero x = own_one (HandOut Db label) is some refl x
+    works (Statement Db task) is some zero x = own_one (Statement Db task) is some refl x
     works (Begin label level read_only) is some zero x = own_one (Begin label level read_only) is some refl x
     works Ping is some zero x = own_one Ping is some refl x
-    works (Execute (Tx k)) is some zero x = inner_one k (ap scope is) some
-    works (ReadOne (Tx k) dests) is some zero x = inner_one k (ap scope is) some
-    works (HandOut (Tx k) label) is some zero x = inner_one k (ap scope is) some
+    works (Statement (Held k) task) is some zero x = inner_one k (ap scope is) some
 
     whose : (b : Bool) → (e.call_no == 0) ≡ b → is_due (cond b (tidying H n) (due_for H e.call_no)) e.call ≡ true → OwnSent H e own
     whose true zero x = layer (is_begun H n) refl x

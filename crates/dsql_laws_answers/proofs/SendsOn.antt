@@ -12,9 +12,9 @@ use Rattle.dsql_laws_calls.specs.history.declared.event.Event.{Event}
 use Rattle.dsql_laws_calls.specs.history.declared.event.Event.TheVariants.{Heard}
 use Rattle.dsql_laws_calls.specs.history.declared.reply.Reply.{Reply}
 use Rattle.dsql_laws_calls.specs.history.declared.work.Scope.{Scope}
-use Rattle.dsql_laws_calls.specs.history.declared.work.Scope.TheVariants.{Db, Tx}
+use Rattle.dsql_laws_calls.specs.history.declared.work.Scope.TheVariants.{Db, Held}
 use Rattle.dsql_laws_calls.specs.history.declared.work.Work.{Work}
-use Rattle.dsql_laws_calls.specs.history.declared.work.Work.TheVariants.{Execute, ReadOne, HandOut, Begin, End, Ping, Fetch, Close, Look}
+use Rattle.dsql_laws_calls.specs.history.declared.work.Work.TheVariants.{Statement, Begin, End, Ping, Fetch, Close, Look}
 use Rattle.dsql_laws_calls.specs.history.Readers.Calls.{site, decided, has_begun_to_send}
 use Rattle.dsql_laws_calls.specs.history.Readers.Pool.{home}
 use Rattle.dsql_laws_calls.specs.history.Readers.Transactions.{tx_by, goes_on, tx_ender}
@@ -41,7 +41,7 @@ pub record BesideLent (H : List Event) (e : Entry) (t : ℕ) (own : Owner) (m : 
 -- A call that has settled its reply sends on, on another connection.
 
 inner_off : (H : List Event) (e : Entry) (t : ℕ) (own : Owner) (m k : ℕ) → BesideLent H e t own m → is_some (decided H m) ≡ true → line_of (Heard e ∷ H) m wishes.Nothing ≡ line_of H m wishes.Nothing
-    → is_some (due_inside H m (Tx k)) ≡ true → is_some (due_inside (Heard e ∷ H) m (Tx k)) ≡ true
+    → is_some (due_inside H m (Held k)) ≡ true → is_some (due_inside (Heard e ∷ H) m (Held k)) ≡ true
 inner_off H e t own m k b settled line h =
     ap (λ x. is_some (cond (x || (goes_on K k && is_none (decided K m))) (line_of K m wishes.Nothing) None)) (sent_same H e m (site H m) b.beside.other)
     ∙ (ap (λ d. is_some (cond (has_begun_to_send H m || (goes_on K k && is_none (decided K m))) d None)) line ∙ by (has_begun_to_send H m) h)
@@ -104,7 +104,7 @@ decided_off H e t own m b settled apart h = started (is_unfinished H m) h
 
     inside : (w : Work) (s : Scope) → work H m ≡ w → (w ≡ Look → ⊥) → is_some (due_inside H m s) ≡ true → is_some (due_inside K m s) ≡ true
     inside w Db is busy x = ap (λ d. is_some d) (line w is busy) ∙ x
-    inside w (Tx k) is busy x = inner_off H e t own m k b settled (line w is busy) x
+    inside w (Held k) is busy x = inner_off H e t own m k b settled (line w is busy) x
 
     ends : (k : ℕ) → work H m ≡ End k → is_some (cond (tx_ender H k == m) (ending H k) None) ≡ true → is_some (cond (tx_ender K k == m) (ending K k) None) ≡ true
     ends k is x =
@@ -121,9 +121,7 @@ decided_off H e t own m b settled apart h = started (is_unfinished H m) h
     by (Close k) is x = rows_off_closed H e t own m k b settled apart (borrow_same H m k (inr is)) x
     by (End k) is x = ends k is x
     by Look is x = absurd cc
-    by (Execute s) is x = inside (Execute s) s is (λ y. cc) x
-    by (ReadOne s dests) is x = inside (ReadOne s dests) s is (λ y. cc) x
-    by (HandOut s label) is x = inside (HandOut s label) s is (λ y. cc) x
+    by (Statement s task) is x = inside (Statement s task) s is (λ y. cc) x
     by (Begin label level read_only) is x = ap (λ d. is_some d) (line (Begin label level read_only) is (λ y. cc)) ∙ x
     by Ping is x = ap (λ d. is_some d) (line Ping is (λ y. cc)) ∙ x
 

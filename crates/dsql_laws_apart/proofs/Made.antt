@@ -4,9 +4,9 @@ use Rattle.dsql_laws_calls.specs.journal.declared.entry.Entry.{Entry}
 use Rattle.dsql_laws_calls.proofs.laws.Tests.{both, together, other_number}
 use Rattle.dsql_laws_calls.specs.history.declared.event.Event.{Event}
 use Rattle.dsql_laws_calls.specs.history.declared.event.Event.TheVariants.{Heard}
-use Rattle.dsql_laws_calls.specs.history.declared.work.Scope.TheVariants.{Tx}
+use Rattle.dsql_laws_calls.specs.history.declared.work.Scope.TheVariants.{Held}
 use Rattle.dsql_laws_calls.specs.history.declared.work.Work.{Work}
-use Rattle.dsql_laws_calls.specs.history.declared.work.Work.TheVariants.{Execute, ReadOne, HandOut, End, Fetch, Close, Look}
+use Rattle.dsql_laws_calls.specs.history.declared.work.Work.TheVariants.{Statement, End, Fetch, Close, Look}
 use Rattle.dsql_laws_calls.specs.history.Readers.HandedOut.{rows_by}
 use Rattle.dsql_laws_calls.specs.history.Readers.Transactions.{is_begun, is_over, tx_ender}
 use Rattle.dsql_laws_calls.specs.history.Readers.Works.{work, scope}
@@ -42,16 +42,14 @@ names_made H e l some =
     let s = sound H l.0 in
     by (s.coming e f.comes) (work H e.call_no) refl
   where
-    inner : (k : ℕ) → scope (work H e.call_no) ≡ Tx k → has_transaction H k ≡ true
+    inner : (k : ℕ) → scope (work H e.call_no) ≡ Held k → has_transaction H k ≡ true
     inner k is =
         let f = heard_called H e l.1 some in
         let i = inside H l.0 in
         transaction_made H k l.0 (i.coming e k f.comes is)
 
     by : (u : UnderWay H e) (it : Work) → work H e.call_no ≡ it → has_what_it_names H it ≡ true
-    by u (Execute (Tx k)) is = inner k (ap scope is)
-    by u (ReadOne (Tx k) dests) is = inner k (ap scope is)
-    by u (HandOut (Tx k) label) is = inner k (ap scope is)
+    by u (Statement (Held k) task) is = inner k (ap scope is)
     by u (Fetch k) is = rows_made H k (u.rowed k (inl is))
     by u (Close k) is = rows_made H k (u.rowed k (inr is))
     by u (End k) is =

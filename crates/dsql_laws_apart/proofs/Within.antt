@@ -8,9 +8,10 @@ use Rattle.dsql_laws_calls.specs.journal.Kinds.{is_call, is_house, number_of}
 use Rattle.dsql_laws_calls.proofs.laws.Tests.{same_itself, other_number}
 use Rattle.dsql_laws_calls.specs.history.declared.event.Event.{Event}
 use Rattle.dsql_laws_calls.specs.history.declared.event.Event.TheVariants.{Heard}
-use Rattle.dsql_laws_calls.specs.history.declared.work.Scope.TheVariants.{Db, Tx}
+use Rattle.dsql_laws_calls.specs.history.declared.work.Scope.TheVariants.{Db, Held}
 use Rattle.dsql_laws_calls.specs.history.declared.work.Work.{Work}
-use Rattle.dsql_laws_calls.specs.history.declared.work.Work.TheVariants.{Execute, ReadOne, HandOut, Begin, End, Fetch, Close}
+use Rattle.dsql_laws_calls.specs.history.declared.work.Task.TheVariants.{HandOut}
+use Rattle.dsql_laws_calls.specs.history.declared.work.Work.TheVariants.{Statement, Begin, End, Fetch, Close}
 use Rattle.dsql_laws_calls.specs.history.Readers.Works.{work, scope, asks, is_in, borrower, owner_as, owner_of}
 use Rattle.dsql_laws_calls.specs.history.Legal.{Lawful}
 use Rattle.dsql_laws_calls.proofs.Cases.{true_false}
@@ -52,8 +53,8 @@ rows_within : (H : List Event) (e : Entry) (k : ℕ) → Lawful (Heard e ∷ H) 
 rows_within H e k l tx hands uses = by (work H k) refl hands
   where
     by : (it : Work) → work H k ≡ it → hands_out it ≡ true → is_in e.tx (scope it) ≡ true
-    by (HandOut (Tx n) label) is h = ap (λ j. j == e.tx) (sym (inside_uses H k n (ap scope is)) ∙ uses) ∙ same_itself e.tx
-    by (HandOut Db label) is h = none_begins H e k l tx (asks_own H k (ap asks is)) uses (ap begins is)
+    by (Statement (Held n) (HandOut label)) is h = ap (λ j. j == e.tx) (sym (inside_uses H k n (ap scope is)) ∙ uses) ∙ same_itself e.tx
+    by (Statement Db (HandOut label)) is h = none_begins H e k l tx (asks_own H k (ap asks is)) uses (ap begins is)
     by it is h = absurd cc
 
 pub called_within : (H : List Event) (e : Entry) → Lawful (Heard e ∷ H) → e.tx ≢ 0 → e.call_no ≢ 0 → from_within H e (work H e.call_no) ≡ true
@@ -68,7 +69,7 @@ called_within H e l tx some =
     named : (it : Work) → names_tx H e.tx it ≡ true → from_within H e it ≡ true
     named it h = or_right (is_begin e.call) (names_tx H e.tx it || has_ended_it H e.call_no e.tx) (or_left (names_tx H e.tx it) (has_ended_it H e.call_no e.tx) h)
 
-    inner : (k : ℕ) → scope (work H e.call_no) ≡ Tx k → (k == e.tx) ≡ true
+    inner : (k : ℕ) → scope (work H e.call_no) ≡ Held k → (k == e.tx) ≡ true
     inner k is = ap (λ j. j == e.tx) (sym (inside_uses H e.call_no k is) ∙ uses) ∙ same_itself e.tx
 
     over_rows : (u : UnderWay H e) (k : ℕ) → (work H e.call_no ≡ Fetch k) ⊎ (work H e.call_no ≡ Close k) → is_in e.tx (scope (work H k)) ≡ true
@@ -83,9 +84,7 @@ called_within H e l tx some =
         ap (has_ended_it H e.call_no) (sym uses ∙ at) ∙ ends_it H e k f.comes (other_number e.call_no 0 some) is
 
     by : (u : UnderWay H e) (it : Work) → work H e.call_no ≡ it → from_within H e it ≡ true
-    by u (Execute (Tx k)) is = named (Execute (Tx k)) (inner k (ap scope is))
-    by u (ReadOne (Tx k) dests) is = named (ReadOne (Tx k) dests) (inner k (ap scope is))
-    by u (HandOut (Tx k) label) is = named (HandOut (Tx k) label) (inner k (ap scope is))
+    by u (Statement (Held k) task) is = named (Statement (Held k) task) (inner k (ap scope is))
     by u (Fetch k) is = named (Fetch k) (over_rows u k (inl is))
     by u (Close k) is = named (Close k) (over_rows u k (inr is))
     by u (End k) is =

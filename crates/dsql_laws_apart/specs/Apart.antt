@@ -10,7 +10,7 @@ use Rattle.dsql_laws_calls.specs.works.Same.{same_truth}
 use Rattle.dsql_laws_calls.specs.history.declared.event.Event.{Event}
 use Rattle.dsql_laws_calls.specs.history.declared.event.Event.TheVariants.{Heard}
 use Rattle.dsql_laws_calls.specs.history.declared.work.Scope.{Scope}
-use Rattle.dsql_laws_calls.specs.history.declared.work.Scope.TheVariants.{Db, Tx}
+use Rattle.dsql_laws_calls.specs.history.declared.work.Scope.TheVariants.{Db, Held}
 use Rattle.dsql_laws_calls.specs.history.declared.work.Work.{Work}
 use Rattle.dsql_laws_calls.specs.history.declared.work.Work.TheVariants.{Begin, End, Fetch, Close}
 use Rattle.dsql_laws_calls.specs.history.Same.{same_level}
@@ -31,7 +31,7 @@ has_rows before k = not (k == 0) && is_some (rows_by before k)
 -- Is true if the scope is the database, or a transaction that was begun.
 abbrev pub has_scope : List Event → Scope → Bool
 has_scope before Db = true
-has_scope before (Tx k) = has_transaction before k
+has_scope before (Held k) = has_transaction before k
 
 -- Is true if what the work names was made: the transaction was begun, or the rows were handed out.
 abbrev pub has_what_it_names : List Event → Work → Bool

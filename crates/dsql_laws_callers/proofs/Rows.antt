@@ -22,9 +22,10 @@ use Rattle.dsql_laws_calls.specs.history.declared.event.Event.TheVariants.{Enter
 use Rattle.dsql_laws_calls.specs.history.declared.event.Op.{Op}
 use Rattle.dsql_laws_calls.specs.history.declared.event.Op.TheVariants as ops
 use Rattle.dsql_laws_calls.specs.history.declared.work.Scope.{Scope}
-use Rattle.dsql_laws_calls.specs.history.declared.work.Scope.TheVariants.{Db, Tx}
+use Rattle.dsql_laws_calls.specs.history.declared.work.Scope.TheVariants.{Db, Held}
 use Rattle.dsql_laws_calls.specs.history.declared.work.Work.{Work}
-use Rattle.dsql_laws_calls.specs.history.declared.work.Work.TheVariants.{HandOut, Fetch, Look}
+use Rattle.dsql_laws_calls.specs.history.declared.work.Task.TheVariants.{HandOut}
+use Rattle.dsql_laws_calls.specs.history.declared.work.Work.TheVariants.{Statement, Fetch, Look}
 use Rattle.dsql_laws_calls.specs.history.Readers.Course.{has_ended}
 use Rattle.dsql_laws_calls.specs.history.Readers.Unfinished.{is_unfinished}
 use Rattle.dsql_laws_calls.specs.history.Readers.Works.{works, work, rows_maker, tx_maker, scope}
@@ -35,19 +36,19 @@ use Rattle.dsql_laws_callers.proofs.Works.{some_works, work_stays}
 
 -- Is true if the work hands out rows in a transaction.
 abbrev pub hands_out_inside : Work → Bool
-hands_out_inside (HandOut (Tx k) label) = true
+hands_out_inside (Statement (Held k) (HandOut label)) = true
 hands_out_inside _ = false
 
 -- Rows that weren't made before an answer are made by it. They are over after it only if they are late.
 
-late_inside : (H : List Event) (s : Scope) (label : List ℕ) (rows : Rows) → live (Some rows) ≡ true → over (Some (born (is_late H s) rows)) ≡ true → hands_out_inside (HandOut s label) ≡ true
-late_inside H (Tx k) label rows lives h = refl
+late_inside : (H : List Event) (s : Scope) (label : List ℕ) (rows : Rows) → live (Some rows) ≡ true → over (Some (born (is_late H s) rows)) ≡ true → hands_out_inside (Statement s (HandOut label)) ≡ true
+late_inside H (Held k) label rows lives h = refl
 late_inside H Db label rows lives h = absurd (true_false _ h (ap not lives))
 
-new_over : (H : List Event) (s : Scope) (label : List ℕ) (m n : ℕ) (rows : Rows) → live (Some rows) ≡ true → over (cond (n == m) (Some (born (is_late H s) rows)) None) ≡ true → (n ≡ m) × (hands_out_inside (HandOut s label) ≡ true)
+new_over : (H : List Event) (s : Scope) (label : List ℕ) (m n : ℕ) (rows : Rows) → live (Some rows) ≡ true → over (cond (n == m) (Some (born (is_late H s) rows)) None) ≡ true → (n ≡ m) × (hands_out_inside (Statement s (HandOut label)) ≡ true)
 new_over H s label m n rows lives h = by (n == m) refl h
   where
-    by : (b : Bool) → (n == m) ≡ b → over (cond b (Some (born (is_late H s) rows)) None) ≡ true → (n ≡ m) × (hands_out_inside (HandOut s label) ≡ true)
+    by : (b : Bool) → (n == m) ≡ b → over (cond b (Some (born (is_late H s) rows)) None) ≡ true → (n ≡ m) × (hands_out_inside (Statement s (HandOut label)) ≡ true)
     by true same k = (same_number n m same, late_inside H s label rows lives k)
     by false apart k = absurd cc
 
@@ -55,7 +56,7 @@ none_over : (o : Option Rows) → o ≡ None → over o ≡ true → ⊥
 none_over o none h = true_false _ h (ap over none)
 
 heard_none : (H : List Event) (it : Work) (m : ℕ) (call : DriverCall) (answer : DriverAnswer) (rows : Made) (n : ℕ) → rows_of n rows ≡ None → over (rows_of n (rows_heard H it m call answer rows)) ≡ true → (n ≡ m) × (hands_out_inside it ≡ true)
-heard_none H (HandOut s label) m (calls.Query input params) (answers.Cursor cursor columns) rows n none h =
+heard_none H (Statement s (HandOut label)) m (calls.Query input params) (answers.Cursor cursor columns) rows n none h =
     let there : rows_of n (rows ++ (m, born (is_late H s) (fresh cursor columns)) ∷ []) ≡ cond (n == m) (Some (born (is_late H s) (fresh cursor columns))) None =
     with_new n m (born (is_late H s) (fresh cursor columns)) rows ∙ ap (λ (o : Option Rows). option_or o (cond (n == m) (Some (born (is_late H s) (fresh cursor columns))) None)) none
     in

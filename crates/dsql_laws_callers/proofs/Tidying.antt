@@ -8,9 +8,10 @@ use Rattle.dsql_laws_calls.specs.journal.Kinds.{number_of}
 use Rattle.dsql_laws_calls.specs.tx.declared.end.TxEnd.{TxEnd}
 use Rattle.dsql_laws_calls.proofs.laws.Tests.{both, same_number}
 use Rattle.dsql_laws_calls.specs.history.declared.event.Event.{Event}
-use Rattle.dsql_laws_calls.specs.history.declared.work.Scope.TheVariants.{Db, Tx}
+use Rattle.dsql_laws_calls.specs.history.declared.work.Scope.TheVariants.{Db, Held}
 use Rattle.dsql_laws_calls.specs.history.declared.work.Work.{Work}
-use Rattle.dsql_laws_calls.specs.history.declared.work.Work.TheVariants.{HandOut, Close}
+use Rattle.dsql_laws_calls.specs.history.declared.work.Task.TheVariants.{HandOut}
+use Rattle.dsql_laws_calls.specs.history.declared.work.Work.TheVariants.{Statement, Close}
 use Rattle.dsql_laws_calls.specs.history.Readers.Course.{has_ended}
 use Rattle.dsql_laws_calls.specs.history.Readers.HandedOut.{are_over, ender}
 use Rattle.dsql_laws_calls.specs.history.Readers.Pool.{place}
@@ -42,8 +43,8 @@ closing_over H n q h = by (are_over H n) h
 
 -- A call that asks for a connection of its own hands out no rows in a transaction.
 asks_outside : (it : Work) → asks it ≡ true → rows.hands_out_inside it ≡ true → ⊥
-asks_outside (HandOut (Tx k) label) own inside = cc
-asks_outside (HandOut Db label) own inside = cc
+asks_outside (Statement (Held k) (HandOut label)) own inside = cc
+asks_outside (Statement Db (HandOut label)) own inside = cc
 asks_outside _ own inside = cc
 
 if_none : (n : ℕ) (o : Option DriverCall) (q : DriverCall) → is_due (cond (n == 0) o None) q ≡ true → (n ≡ 0) × (is_due o q ≡ true)

@@ -24,6 +24,7 @@ use Rattle.dsql_laws_work.proofs.MadeLines.{MadeRows, MadeAt, is_ended, ended_by
 use Rattle.dsql_laws.specs.history.declared.event.Event.{Event}
 use Rattle.dsql_laws.specs.history.declared.work.Scope.TheVariants.{Db}
 use Rattle.dsql_laws.specs.history.declared.work.Work.{Work}
+use Rattle.dsql_laws.specs.history.declared.work.Task.TheVariants as tasks
 use Rattle.dsql_laws.specs.history.declared.work.Work.TheVariants as works_of
 use Rattle.dsql_laws.specs.history.Readers.Course.{caps}
 use Rattle.dsql_laws.specs.history.Readers.Works.{work, scope, asks}
@@ -55,9 +56,9 @@ line_of_call H c t own w l is call =
         at false its = refl
 
     by : (v : Work) → asks v ≡ true → begins v ≡ false → line_for v (scope v) (sender H (number_of own) c w) (line_in own (number_of own) (heard_in H c t)) ≡ line_after (caps H) (is_reset_due H c) (asked_by H (number_of own)) w (line_in own (number_of own) (heard_in H c t))
-    by (works_of.Execute Db) h k = refl
-    by (works_of.ReadOne Db dests) h k = refl
-    by (works_of.HandOut Db label) h k = refl
+    by (works_of.Statement Db tasks.Execute) h k = refl
+    by (works_of.Statement Db (tasks.ReadOne dests)) h k = refl
+    by (works_of.Statement Db (tasks.HandOut label)) h k = refl
     by works_of.Ping h k = refl
     by v h k = absurd cc
 

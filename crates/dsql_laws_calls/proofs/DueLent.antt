@@ -10,9 +10,9 @@ use Rattle.dsql_laws.specs.pool.Places.{is_lent}
 use Rattle.dsql_laws.proofs.Tests.{other_number}
 use Rattle.dsql_laws.specs.history.declared.event.Event.{Event}
 use Rattle.dsql_laws.specs.history.declared.work.Scope.{Scope}
-use Rattle.dsql_laws.specs.history.declared.work.Scope.TheVariants.{Db, Tx}
+use Rattle.dsql_laws.specs.history.declared.work.Scope.TheVariants.{Db, Held}
 use Rattle.dsql_laws.specs.history.declared.work.Work.{Work}
-use Rattle.dsql_laws.specs.history.declared.work.Work.TheVariants.{Execute, ReadOne, HandOut, Begin, End, Ping, Fetch, Close, Look}
+use Rattle.dsql_laws.specs.history.declared.work.Work.TheVariants.{Statement, Begin, End, Ping, Fetch, Close, Look}
 use Rattle.dsql_laws.specs.history.Readers.Calls.{site}
 use Rattle.dsql_laws.specs.history.Readers.Pool.{place, home}
 use Rattle.dsql_laws.specs.history.Readers.Transactions.{tx_ender}
@@ -51,7 +51,7 @@ due_lent_for H m some h = started (is_unfinished H m) h
 
     inner : (s : Scope) → is_some (due_inside H m s) ≡ true → is_lent_for (borrower H m) (place H (site H m)) ≡ true
     inner Db x = own x
-    inner (Tx k) x = sends (sends_in H m k) x
+    inner (Held k) x = sends (sends_in H m k) x
       where
         sends : (b : Bool) → is_some (cond b (line_of H m wishes.Nothing) None) ≡ true → is_lent_for (borrower H m) (place H (site H m)) ≡ true
         sends true y = own y
@@ -66,9 +66,7 @@ due_lent_for H m some h = started (is_unfinished H m) h
     by (Close k) is x = rows k (inr is) x
     by (End k) is x = ends k (tx_ender H k == m) (rw is refl) x
     by Look is x = absurd cc
-    by (Execute s) is x = inner s x
-    by (ReadOne s dests) is x = inner s x
-    by (HandOut s label) is x = inner s x
+    by (Statement s task) is x = inner s x
     by (Begin label level read_only) is x = own x
     by Ping is x = own x
 

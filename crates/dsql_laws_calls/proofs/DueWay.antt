@@ -16,9 +16,10 @@ use Rattle.dsql_laws.specs.history.Readers.HandedOut.{over, rows_by, are_live, a
 use Rattle.dsql_laws.specs.history.Rules.Wishes.{wish_as}
 use Rattle.dsql_laws.proofs.Tests.{both, same_number, same_itself}
 use Rattle.dsql_laws.specs.history.declared.event.Event.{Event}
-use Rattle.dsql_laws.specs.history.declared.work.Scope.TheVariants.{Db, Tx}
+use Rattle.dsql_laws.specs.history.declared.work.Scope.TheVariants.{Db, Held}
 use Rattle.dsql_laws.specs.history.declared.work.Work.{Work}
-use Rattle.dsql_laws.specs.history.declared.work.Work.TheVariants.{Execute, ReadOne, HandOut, Begin, Ping, Fetch, Close, End, Look}
+use Rattle.dsql_laws.specs.history.declared.work.Task.TheVariants.{HandOut}
+use Rattle.dsql_laws.specs.history.declared.work.Work.TheVariants.{Statement, Begin, Ping, Fetch, Close, End, Look}
 use Rattle.dsql_laws.specs.history.Readers.Course.{caps}
 use Rattle.dsql_laws.specs.history.Readers.Unfinished.{is_unfinished}
 use Rattle.dsql_laws.specs.history.Readers.Works.{work, scope, asks, borrower, hands_out_in, is_in, is_fetch, aim_of, owner_as}
@@ -55,7 +56,7 @@ use Rattle.dsql_laws_calls.proofs.UnderWay.{line_made, handed_there, Going, Fact
 none_of : {A : Type 0} (m : ℕ) → (m == 0) ≡ true → m ≢ 0 → A
 none_of m is some = absurd (some (same_number m 0 is))
 
-not_inside : {A : Type 0} (H : List Event) (m k : ℕ) → (m == 0) ≡ true → scope (work H m) ≡ Tx k → A
+not_inside : {A : Type 0} (H : List Event) (m k : ℕ) → (m == 0) ≡ true → scope (work H m) ≡ Held k → A
 not_inside H m k is s = clash (sym is ∙ number_not H m k s)
 
 on_rows : {A : Type 0} (w : Work) (j : ℕ) → w ≡ Look → (w ≡ Fetch j) ⊎ (w ≡ Close j) → A
@@ -111,18 +112,16 @@ layer_due H e l f d layer due = by (is_begun H (number_of d.owner)) refl due
     by false begun x = closed (ender H (number_of d.owner) == 0) x
 
 -- The line of a call in a transaction is `inner_after` of its own entries.
-pub inner_is : (H : List Event) (c t : ℕ) (own : Owner) (m : ℕ) (w : Wish) (k : ℕ) → is_call own ≡ false → scope (work H m) ≡ Tx k
+pub inner_is : (H : List Event) (c t : ℕ) (own : Owner) (m : ℕ) (w : Wish) (k : ℕ) → is_call own ≡ false → scope (work H m) ≡ Held k
     → line_there H c t own m w ≡ inner_after (caps H) (went_bad (journal H c)) (asked_by H m) w (line_among m (heard_in H c t))
 inner_is H c t own m w k other s =
     by (work H m) s ∙ ap (λ b. inner_after (caps H) (went_bad (journal H c)) (asked_by H m) w (cond b (heard_in H c t) (line_among m (heard_in H c t)))) other
   where
-    by : (v : Work) → scope v ≡ Tx k → line_for v (scope v) (sender H m c w) (line_in own m (heard_in H c t)) ≡ inner_after (caps H) (went_bad (journal H c)) (asked_by H m) w (line_in own m (heard_in H c t))
-    by (Execute (Tx j)) x = refl
-    by (ReadOne (Tx j) dests) x = refl
-    by (HandOut (Tx j) label) x = refl
+    by : (v : Work) → scope v ≡ Held k → line_for v (scope v) (sender H m c w) (line_in own m (heard_in H c t)) ≡ inner_after (caps H) (went_bad (journal H c)) (asked_by H m) w (line_in own m (heard_in H c t))
+    by (Statement (Held j) task) x = refl
     by v x = absurd cc
 
-pub inner_line : (H : List Event) (c t : ℕ) (own : Owner) (m : ℕ) (w : Wish) (k : ℕ) → is_call own ≡ false → scope (work H m) ≡ Tx k
+pub inner_line : (H : List Event) (c t : ℕ) (own : Owner) (m : ℕ) (w : Wish) (k : ℕ) → is_call own ≡ false → scope (work H m) ≡ Held k
     → is_some (line_there H c t own m w) ≡ is_some (inner_after (caps H) (went_bad (journal H c)) (asked_by H m) w (line_among m (heard_in H c t)))
 inner_line H c t own m w k other s = ap (λ d. is_some d) (inner_is H c t own m w k other s)
 
@@ -154,31 +153,29 @@ own_due H e l d some asking h u =
     asks_rowless w j a (inl is) = let wrong : true ≡ false = sym a ∙ ap asks is in absurd cc
     asks_rowless w j a (inr is) = let wrong : true ≡ false = sym a ∙ ap asks is in absurd cc
 
-    asks_outside : {A : Type 0} (w : Work) (k : ℕ) → asks w ≡ true → scope w ≡ Tx k → A
-    asks_outside (Execute Db) k a s = absurd cc
-    asks_outside (ReadOne Db dests) k a s = absurd cc
-    asks_outside (HandOut Db label) k a s = absurd cc
+    asks_outside : {A : Type 0} (w : Work) (k : ℕ) → asks w ≡ true → scope w ≡ Held k → A
+    asks_outside (Statement Db task) k a s = absurd cc
     asks_outside (Begin label level read_only) k a s = absurd cc
     asks_outside Ping k a s = absurd cc
     asks_outside w k a s = absurd cc
 
 -- The entry is of a call in a transaction.
 
-rows_outside : {A : Type 0} (H : List Event) (m j k : ℕ) → (work H m ≡ Fetch j) ⊎ (work H m ≡ Close j) → scope (work H m) ≡ Tx k → A
-rows_outside H m j k (inl is) s = let wrong : Db ≡ Tx k = sym (ap scope is) ∙ s in absurd cc
-rows_outside H m j k (inr is) s = let wrong : Db ≡ Tx k = sym (ap scope is) ∙ s in absurd cc
+rows_outside : {A : Type 0} (H : List Event) (m j k : ℕ) → (work H m ≡ Fetch j) ⊎ (work H m ≡ Close j) → scope (work H m) ≡ Held k → A
+rows_outside H m j k (inl is) s = let wrong : Db ≡ Held k = sym (ap scope is) ∙ s in absurd cc
+rows_outside H m j k (inr is) s = let wrong : Db ≡ Held k = sym (ap scope is) ∙ s in absurd cc
 
-inside_due : (H : List Event) (e : Entry) (k : ℕ) → Lawful H → Facts H → (d : DueNow H e) → (e.call_no == 0) ≡ false → scope (work H e.call_no) ≡ Tx k → DueOf H e.call_no e.call → UnderWay H e
+inside_due : (H : List Event) (e : Entry) (k : ℕ) → Lawful H → Facts H → (d : DueNow H e) → (e.call_no == 0) ≡ false → scope (work H e.call_no) ≡ Held k → DueOf H e.call_no e.call → UnderWay H e
 inside_due H e k l f d some s o =
     let i = due_within H e.call_no k e.call (work H e.call_no) s o.due in
     let own : number_of d.owner ≡ borrower H e.call_no = line_at_its H e.call_no e.conn e.tenure d.owner wishes.Nothing e.call (d.site some) d.lent i.due in
     let number : number_of d.owner ≡ k = own ∙ inside_uses H e.call_no k s in
-    way number (sym own) (ap (λ b. b) (subst (λ j. sends_in H e.call_no j ≡ true) (sym number) i.sends)) (subst (λ j. scope (work H e.call_no) ≡ Tx j) (sym number) s) i.due
+    way number (sym own) (ap (λ b. b) (subst (λ j. sends_in H e.call_no j ≡ true) (sym number) i.sends)) (subst (λ j. scope (work H e.call_no) ≡ Held j) (sym number) s) i.due
   where
     m : ℕ
     m = e.call_no
 
-    begun_with : sends_in H e.call_no (number_of d.owner) ≡ true → scope (work H e.call_no) ≡ Tx (number_of d.owner) → is_begun H (number_of d.owner) ≡ true
+    begun_with : sends_in H e.call_no (number_of d.owner) ≡ true → scope (work H e.call_no) ≡ Held (number_of d.owner) → is_begun H (number_of d.owner) ≡ true
     begun_with sends inner = by (has_begun_to_send H e.call_no) refl sends
       where
         going : (b o c : Bool) → is_begun H (number_of d.owner) ≡ b → ((b && not o) && c) ≡ true → is_begun H (number_of d.owner) ≡ true
@@ -189,7 +186,7 @@ inside_due H e k l f d some s o =
         by true begun x = let j = inside H l in j.sent e.call_no (number_of d.owner) (site H e.call_no) begun inner
         by false begun x = going (is_begun H (number_of d.owner)) (is_over H (number_of d.owner)) (is_none (decided H e.call_no)) refl x
 
-    way : number_of d.owner ≡ k → borrower H e.call_no ≡ number_of d.owner → sends_in H e.call_no (number_of d.owner) ≡ true → scope (work H e.call_no) ≡ Tx (number_of d.owner) → is_due (line_of H e.call_no wishes.Nothing) e.call ≡ true → UnderWay H e
+    way : number_of d.owner ≡ k → borrower H e.call_no ≡ number_of d.owner → sends_in H e.call_no (number_of d.owner) ≡ true → scope (work H e.call_no) ≡ Held (number_of d.owner) → is_due (line_of H e.call_no wishes.Nothing) e.call ≡ true → UnderWay H e
     way number at sends inner due = by (is_over H (number_of d.owner)) refl
       where
         begun : is_begun H (number_of d.owner) ≡ true
@@ -224,11 +221,11 @@ inside_due H e k l f d some s o =
             made (inr (inl (e.call_no, record { hands = in_it; over = dead (rows_by H e.call_no) refl rows in_it; sends = closes_too H e.conn e.tenure d.owner e.call_no some_there }))) (inr h)
           where
             cursor : (w : Work) (xs : List Exchange) → is_some (plain.handed (aim_of w) xs) ≡ true → is_some (own_cursor xs) ≡ true
-            cursor (HandOut s label) xs x = x
+            cursor (Statement s (HandOut label)) xs x = x
             cursor w xs x = absurd cc
 
-            hands_in : (w : Work) (j : ℕ) → hands_out w ≡ true → scope w ≡ Tx j → hands_out_in j w ≡ true
-            hands_in (HandOut s label) j x y = ap (is_in j) y ∙ same_itself j
+            hands_in : (w : Work) (j : ℕ) → hands_out w ≡ true → scope w ≡ Held j → hands_out_in j w ≡ true
+            hands_in (Statement s (HandOut label)) j x y = ap (is_in j) y ∙ same_itself j
             hands_in w j x y = absurd cc
 
             dead : (r : Option Rows) → rows_by H e.call_no ≡ r → is_some r ≡ true → hands_out_in (number_of d.owner) (work H e.call_no) ≡ true → are_over H e.call_no ≡ true
@@ -270,8 +267,8 @@ pub borrow_same : (H : List Event) (m j : ℕ) → (work H m ≡ Fetch j) ⊎ (w
 borrow_same H m j which h = by (work H j) refl h which
   where
     by : (v : Work) → work H j ≡ v → hands_out v ≡ true → (work H m ≡ Fetch j) ⊎ (work H m ≡ Close j) → borrower H m ≡ borrower H j
-    by (HandOut s label) its x (inl is) = rw (is, its) refl
-    by (HandOut s label) its x (inr is) = rw (is, its) refl
+    by (Statement s (HandOut label)) its x (inl is) = rw (is, its) refl
+    by (Statement s (HandOut label)) its x (inr is) = rw (is, its) refl
     by v its x which = absurd cc
 
 rows_due : (H : List Event) (e : Entry) (j : ℕ) → Lawful H → Facts H → (d : DueNow H e) → (e.call_no == 0) ≡ false → (work H e.call_no ≡ Fetch j) ⊎ (work H e.call_no ≡ Close j) → is_unfinished H e.call_no ≡ true
@@ -319,30 +316,30 @@ rows_due H e j l f d some which u due = by (closes H e.call_no j) (is_fetch (wor
         there : is_due (line_there H e.conn e.tenure d.owner j w) e.call ≡ true
         there = ap (λ o. is_due o e.call) (sym (line_here H e.conn e.tenure d.owner j w l d.lent (sym number))) ∙ x
 
-        own_call : (label : List ℕ) → work H j ≡ HandOut Db label → number_of d.owner ≡ j
+        own_call : (label : List ℕ) → work H j ≡ Statement Db (HandOut label) → number_of d.owner ≡ j
         own_call label is = number ∙ rw is refl
 
-        is_own_call : (label : List ℕ) → work H j ≡ HandOut Db label → is_call d.owner ≡ true
+        is_own_call : (label : List ℕ) → work H j ≡ Statement Db (HandOut label) → is_call d.owner ≡ true
         is_own_call label is =
             let o = owner_is_of H e.conn e.tenure d.owner l d.lent in
             ap is_call o.1 ∙ ap (λ v. is_call (owner_as v (number_of d.owner))) (ap (work H) (own_call label is) ∙ is)
 
-        tx_of : (k : ℕ) (label : List ℕ) → work H j ≡ HandOut (Tx k) label → number_of d.owner ≡ k
+        tx_of : (k : ℕ) (label : List ℕ) → work H j ≡ Statement (Held k) (HandOut label) → number_of d.owner ≡ k
         tx_of k label is = number ∙ rw is refl
 
         why_of : (v : Work) → work H j ≡ v → hands_out v ≡ true → Why H e.conn e.tenure d.owner e.call_no
-        why_of (HandOut Db label) is y =
+        why_of (Statement Db (HandOut label)) is y =
             inr (inl (record {
               some = ap (λ i. is_some (rows_by H i)) (own_call label is) ∙ rows;
               sends = sends (sym number ∙ own_call label is) (is_own_call label is);
             }))
-        why_of (HandOut (Tx k) label) is y = inr (inr (tx k (ap (hands_out_in k) is ∙ same_itself k) (tx_of k label is)))
+        why_of (Statement (Held k) (HandOut label)) is y = inr (inr (tx k (ap (hands_out_in k) is ∙ same_itself k) (tx_of k label is)))
         why_of v is y = absurd cc
 
         line_as : (v : Work) → work H j ≡ v → hands_out v ≡ true → is_call d.owner ≡ true → is_due (call_line H e.conn e.tenure d.owner w) e.call ≡ true
-        line_as (HandOut Db label) is y call =
+        line_as (Statement Db (HandOut label)) is y call =
             ap (λ o. is_due o e.call) (sym (line_of_call H e.conn e.tenure d.owner w l d.lent call)) ∙ subst (λ i. is_due (line_there H e.conn e.tenure d.owner i w) e.call ≡ true) (sym (own_call label is)) there
-        line_as (HandOut (Tx k) label) is y call =
+        line_as (Statement (Held k) (HandOut label)) is y call =
             let begun = rows_begun H j k l rows (ap (hands_out_in k) is ∙ same_itself k) in
             let its : is_begun H (number_of d.owner) ≡ true = ap (is_begun H) (tx_of k label is) ∙ begun in
             clash (sym call ∙ begin_owner H e.conn e.tenure d.owner l d.lent (begun_begins H (number_of d.owner) l its))
@@ -433,8 +430,8 @@ end_due H e k l d some is u due = by (tx_ender H k == e.call_no) due
         rowless j (inl its) = let wrong : Fetch j ≡ End k = sym its ∙ is in absurd cc
         rowless j (inr its) = let wrong : Close j ≡ End k = sym its ∙ is in absurd cc
 
-        outside : {A : Type 0} (j : ℕ) → scope (work H e.call_no) ≡ Tx j → A
-        outside j s = let wrong : Db ≡ Tx j = sym (ap scope is) ∙ s in absurd cc
+        outside : {A : Type 0} (j : ℕ) → scope (work H e.call_no) ≡ Held j → A
+        outside j s = let wrong : Db ≡ Held j = sym (ap scope is) ∙ s in absurd cc
 
     by : (b : Bool) → is_due (cond b (ending H k) None) e.call ≡ true → UnderWay H e
     by true x = way (some_due (ending H k) e.call x)
@@ -446,9 +443,7 @@ pub due_under_way : (H : List Event) (e : Entry) → Lawful H → Facts H → is
 due_under_way H e l f h = whose (e.call_no == 0) refl (due_now H e h)
   where
     work_of : (d : DueNow H e) → (e.call_no == 0) ≡ false → DueOf H e.call_no e.call → (w : Work) → work H e.call_no ≡ w → is_due (due_in H e.call_no w) e.call ≡ true → UnderWay H e
-    work_of d some o (Execute (Tx k)) is x = inside_due H e k l f d some (ap scope is) o
-    work_of d some o (ReadOne (Tx k) dests) is x = inside_due H e k l f d some (ap scope is) o
-    work_of d some o (HandOut (Tx k) label) is x = inside_due H e k l f d some (ap scope is) o
+    work_of d some o (Statement (Held k) task) is x = inside_due H e k l f d some (ap scope is) o
     work_of d some o (Fetch j) is x = rows_due H e j l f d some (inl is) o.unfinished x
     work_of d some o (Close j) is x = rows_due H e j l f d some (inr is) o.unfinished x
     work_of d some o (End k) is x = end_due H e k l d some is o.unfinished x

@@ -16,7 +16,8 @@ use Rattle.dsql_laws.specs.driver.declared.answer.DriverAnswer.TheVariants as an
 use Rattle.dsql_laws.specs.rows.declared.end.RowsEnd.TheVariants as ends
 use Rattle.dsql_laws.proofs.Tests.{same_number}
 use Rattle.dsql_laws.specs.history.declared.work.Work.{Work}
-use Rattle.dsql_laws.specs.history.declared.work.Work.TheVariants.{HandOut, Fetch}
+use Rattle.dsql_laws.specs.history.declared.work.Task.TheVariants.{HandOut}
+use Rattle.dsql_laws.specs.history.declared.work.Work.TheVariants.{Statement, Fetch}
 use Rattle.dsql_laws.specs.history.declared.event.Event.{Event}
 use Rattle.dsql_laws.specs.history.declared.event.Event.TheVariants.{Entered, Heard, Ended}
 use Rattle.dsql_laws.specs.history.declared.event.Op.{Op}
@@ -79,7 +80,7 @@ born_stays true r h = ended_stays ends.TxEnded r h
 born_stays false r h = h
 
 kept_heard : (H : List Event) (it : Work) (m n : ℕ) (q : DriverCall) (a : DriverAnswer) (R : Made) → Kept (rows_of n R) (rows_of n (rows_heard H it m q a R))
-kept_heard H (HandOut s label) m n (calls.Query input params) (answers.Cursor cursor columns) R = kept_more m n (born (is_late H s) (fresh cursor columns)) R
+kept_heard H (Statement s (HandOut label)) m n (calls.Query input params) (answers.Cursor cursor columns) R = kept_more m n (born (is_late H s) (fresh cursor columns)) R
 kept_heard H (Fetch k) m n (calls.Next cursor) a R = kept_changed (fetched a) k n R (fetch_stays a)
 kept_heard H _ m n q a R = kept_same (rows_of n R)
 

@@ -12,7 +12,7 @@ use Rattle.dsql_laws.proofs.Tried.{lent_count, shut_fewer}
 use Rattle.dsql_laws.proofs.Wanted.{wants_counts}
 use Rattle.dsql_laws_work.proofs.Rows.{same_or_not}
 use Rattle.dsql_laws.specs.history.declared.work.Work.{Work}
-use Rattle.dsql_laws.specs.history.declared.work.Work.TheVariants.{Execute, ReadOne, HandOut, Begin, End, Ping as Pings, Fetch, Close, Look}
+use Rattle.dsql_laws.specs.history.declared.work.Work.TheVariants.{Statement, Begin, End, Ping as Pings, Fetch, Close, Look}
 use Rattle.dsql_laws.specs.history.Readers.Works.{asks, works, work, work_of, is_fetch, scope}
 use Rattle.dsql_laws.specs.history.Rules.Line.{due_in, due_for, is_due_at, parts, may_come, sends_in}
 use Rattle.dsql_laws.specs.history.declared.event.Event.{Event}
@@ -29,7 +29,7 @@ use Rattle.dsql_laws.proofs.Wanting.{wants_its_own}
 use Rattle.dsql_laws_calls.proofs.Works.{enters_next, old_unfinished, still_unfinished, old_work}
 use Rattle.dsql_laws_calls.proofs.Looks.{due_there, heard_there, comes}
 use Rattle.dsql_laws_calls.proofs.Rows.{is_worker, ender_works, none_at_end, entering_revives_none}
-use Rattle.dsql_laws.specs.history.declared.work.Scope.TheVariants.{Db, Tx}
+use Rattle.dsql_laws.specs.history.declared.work.Scope.TheVariants.{Db, Held}
 use Rattle.dsql_laws.specs.history.Readers.Journals.{journal}
 use Rattle.dsql_laws.specs.history.Readers.Lines.{has_sent}
 use Rattle.dsql_laws.specs.history.Readers.Transactions.{goes_on, ending_call, tx_ender}
@@ -107,14 +107,10 @@ nothing_due H i n = by (is_unfinished H n) refl
     asking w is own u = subst (λ v. is_some (due_in H n v) ≡ false) is (none_in (is_some (due_in H n (work H n))) refl (ap asks is ∙ own) u)
 
     none_of : (w : Work) → work H n ≡ w → is_unfinished H n ≡ true → is_some (due_in H n w) ≡ false
-    none_of (Execute Db) is u = asking (Execute Db) is refl u
-    none_of (ReadOne Db dests) is u = asking (ReadOne Db dests) is refl u
-    none_of (HandOut Db label) is u = asking (HandOut Db label) is refl u
+    none_of (Statement Db task) is u = asking (Statement Db task) is refl u
     none_of (Begin label level read_only) is u = asking (Begin label level read_only) is refl u
     none_of Pings is u = asking Pings is refl u
-    none_of (Execute (Tx k)) is u = none_inside k (ap asks is) u
-    none_of (ReadOne (Tx k) dests) is u = none_inside k (ap asks is) u
-    none_of (HandOut (Tx k) label) is u = none_inside k (ap asks is) u
+    none_of (Statement (Held k) task) is u = none_inside k (ap asks is) u
     none_of (Fetch k) is u = none_over k u
     none_of (Close k) is u = none_over k u
     none_of (End k) is u = none_ending k u

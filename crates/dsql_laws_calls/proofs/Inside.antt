@@ -29,9 +29,10 @@ use Rattle.dsql_laws.specs.history.declared.event.Event.TheVariants.{Entered, He
 use Rattle.dsql_laws.specs.history.declared.event.Op.{Op}
 use Rattle.dsql_laws.specs.history.declared.event.Op.TheVariants as ops
 use Rattle.dsql_laws.specs.history.declared.work.Scope.{Scope}
-use Rattle.dsql_laws.specs.history.declared.work.Scope.TheVariants.{Db, Tx}
+use Rattle.dsql_laws.specs.history.declared.work.Scope.TheVariants.{Db, Held}
 use Rattle.dsql_laws.specs.history.declared.work.Work.{Work}
-use Rattle.dsql_laws.specs.history.declared.work.Work.TheVariants.{Execute, ReadOne, HandOut, Fetch, Look}
+use Rattle.dsql_laws.specs.history.declared.work.Task.TheVariants.{HandOut}
+use Rattle.dsql_laws.specs.history.declared.work.Work.TheVariants.{Statement, Fetch, Look}
 use Rattle.dsql_laws.specs.history.Readers.Unfinished.{is_unfinished}
 use Rattle.dsql_laws.specs.history.Readers.Works.{works, work, scope, is_in, hands_out_in, borrower, tx_maker}
 use Rattle.dsql_laws.specs.history.Readers.Journals.{journal}
@@ -56,23 +57,21 @@ use Rattle.dsql_laws_calls.proofs.Ends.{zero_work}
 use Rattle.dsql_laws_calls.proofs.LiveRows.{live_some}
 
 -- A call in a transaction has something to do.
-pub inside_busy : (w : Work) (k : ℕ) → scope w ≡ Tx k → w ≡ Look → ⊥
-inside_busy w k is look = let wrong : Db ≡ Tx k = sym (ap scope look) ∙ is in cc
+pub inside_busy : (w : Work) (k : ℕ) → scope w ≡ Held k → w ≡ Look → ⊥
+inside_busy w k is look = let wrong : Db ≡ Held k = sym (ap scope look) ∙ is in cc
 
-pub scope_stays : (H : List Event) (e : Event) (m k : ℕ) → scope (work H m) ≡ Tx k → scope (work (e ∷ H) m) ≡ Tx k
+pub scope_stays : (H : List Event) (e : Event) (m k : ℕ) → scope (work H m) ≡ Held k → scope (work (e ∷ H) m) ≡ Held k
 scope_stays H e m k is = ap scope (work_stays H e m (inside_busy (work H m) k is)) ∙ is
 
 -- A call in a transaction uses the transaction's connection.
-pub inside_uses : (H : List Event) (m k : ℕ) → scope (work H m) ≡ Tx k → borrower H m ≡ k
+pub inside_uses : (H : List Event) (m k : ℕ) → scope (work H m) ≡ Held k → borrower H m ≡ k
 inside_uses H m k is = by (work H m) refl is
   where
-    number : (n : ℕ) → Tx n ≡ Tx k → n ≡ k
+    number : (n : ℕ) → Held n ≡ Held k → n ≡ k
     number n h = cc
 
-    by : (w : Work) → work H m ≡ w → scope w ≡ Tx k → borrower H m ≡ k
-    by (Execute (Tx n)) its h = rw its (number n h)
-    by (ReadOne (Tx n) dests) its h = rw its (number n h)
-    by (HandOut (Tx n) label) its h = rw its (number n h)
+    by : (w : Work) → work H m ≡ w → scope w ≡ Held k → borrower H m ≡ k
+    by (Statement (Held n) task) its h = rw its (number n h)
     by w its h = absurd cc
 
 -- Holds if call m sends in transaction k, and this driver call is due in its line.
@@ -80,25 +79,23 @@ pub record DueInside (H : List Event) (m k : ℕ) (q : DriverCall) : Type 0 wher
   pub sends : sends_in H m k ≡ true
   pub due : is_due (line_of H m wishes.Nothing) q ≡ true
 
-pub due_within : (H : List Event) (m k : ℕ) (q : DriverCall) (w : Work) → scope w ≡ Tx k → is_due (due_in H m w) q ≡ true → DueInside H m k q
+pub due_within : (H : List Event) (m k : ℕ) (q : DriverCall) (w : Work) → scope w ≡ Held k → is_due (due_in H m w) q ≡ true → DueInside H m k q
 due_within H m k q w is h = by w is h
   where
-    when : (n : ℕ) (b : Bool) → sends_in H m n ≡ b → Tx n ≡ Tx k → is_due (cond b (line_of H m wishes.Nothing) None) q ≡ true → DueInside H m k q
+    when : (n : ℕ) (b : Bool) → sends_in H m n ≡ b → Held n ≡ Held k → is_due (cond b (line_of H m wishes.Nothing) None) q ≡ true → DueInside H m k q
     when n true sends same x = let number : n ≡ k = cc in record { sends = ap (sends_in H m) (sym number) ∙ sends; due = x }
     when n false sends same x = absurd cc
 
-    by : (v : Work) → scope v ≡ Tx k → is_due (due_in H m v) q ≡ true → DueInside H m k q
-    by (Execute (Tx n)) same x = when n (sends_in H m n) refl same x
-    by (ReadOne (Tx n) dests) same x = when n (sends_in H m n) refl same x
-    by (HandOut (Tx n) label) same x = when n (sends_in H m n) refl same x
+    by : (v : Work) → scope v ≡ Held k → is_due (due_in H m v) q ≡ true → DueInside H m k q
+    by (Statement (Held n) task) same x = when n (sends_in H m n) refl same x
     by v same x = absurd cc
 
 -- Holds if, for a call in a transaction, something was heard or may come only if the transaction was begun.
 pub record Inside (H : List Event) : Type 0 where
-  pub sent : (m k c : ℕ) → has_sent m (journal H c) ≡ true → scope (work H m) ≡ Tx k → is_begun H k ≡ true
-  pub coming : (e : Entry) (k : ℕ) → may_come H e ≡ true → scope (work H e.call_no) ≡ Tx k → is_begun H k ≡ true
+  pub sent : (m k c : ℕ) → has_sent m (journal H c) ≡ true → scope (work H m) ≡ Held k → is_begun H k ≡ true
+  pub coming : (e : Entry) (k : ℕ) → may_come H e ≡ true → scope (work H e.call_no) ≡ Held k → is_begun H k ≡ true
 
-pub number_not : (H : List Event) (m k : ℕ) → scope (work H m) ≡ Tx k → (m == 0) ≡ false
+pub number_not : (H : List Event) (m k : ℕ) → scope (work H m) ≡ Held k → (m == 0) ≡ false
 number_not H m k is = by (m == 0) refl
   where
     by : (b : Bool) → (m == 0) ≡ b → b ≡ false
@@ -107,7 +104,7 @@ number_not H m k is = by (m == 0) refl
         absurd (inside_busy (work H m) k is looks)
     by false other = refl
 
-due_begun : (H : List Event) (e : Entry) (k : ℕ) → ((m j c : ℕ) → has_sent m (journal H c) ≡ true → scope (work H m) ≡ Tx j → is_begun H j ≡ true) → is_due_at H (place H e.conn) e ≡ true → scope (work H e.call_no) ≡ Tx k → is_begun H k ≡ true
+due_begun : (H : List Event) (e : Entry) (k : ℕ) → ((m j c : ℕ) → has_sent m (journal H c) ≡ true → scope (work H m) ≡ Held j → is_begun H j ≡ true) → is_due_at H (place H e.conn) e ≡ true → scope (work H e.call_no) ≡ Held k → is_begun H k ≡ true
 due_begun H e k sent h is =
     let d = due_now H e h in
     let some = number_not H e.call_no k is in
@@ -119,11 +116,11 @@ due_begun H e k sent h is =
       | inr goes ↦ (let g = both (goes_on H k) (is_none (decided H e.call_no)) goes in let b = both (is_begun H k) (not (is_over H k)) g.0 in b.0)
     ]
 
-still_coming : (H : List Event) (last : Event) → Inside H → ((m k c : ℕ) → has_sent m (journal (last ∷ H) c) ≡ true → scope (work (last ∷ H) m) ≡ Tx k → is_begun (last ∷ H) k ≡ true)
-    → ((e : Entry) (k : ℕ) → may_come H e ≡ true → scope (work (last ∷ H) e.call_no) ≡ Tx k → scope (work H e.call_no) ≡ Tx k) → Inside (last ∷ H)
+still_coming : (H : List Event) (last : Event) → Inside H → ((m k c : ℕ) → has_sent m (journal (last ∷ H) c) ≡ true → scope (work (last ∷ H) m) ≡ Held k → is_begun (last ∷ H) k ≡ true)
+    → ((e : Entry) (k : ℕ) → may_come H e ≡ true → scope (work (last ∷ H) e.call_no) ≡ Held k → scope (work H e.call_no) ≡ Held k) → Inside (last ∷ H)
 still_coming H last i sent before = record { sent = sent; coming = come }
   where
-    come : (e : Entry) (k : ℕ) → may_come (last ∷ H) e ≡ true → scope (work (last ∷ H) e.call_no) ≡ Tx k → is_begun (last ∷ H) k ≡ true
+    come : (e : Entry) (k : ℕ) → may_come (last ∷ H) e ≡ true → scope (work (last ∷ H) e.call_no) ≡ Held k → is_begun (last ∷ H) k ≡ true
     come e k h is =
         elim (or_cases (is_due_at (last ∷ H) (place (last ∷ H) e.conn) e) (not (parts last e) && may_come H e) h) [
           | inl now ↦ due_begun (last ∷ H) e k sent now is
@@ -131,24 +128,24 @@ still_coming H last i sent before = record { sent = sent; coming = come }
         ]
 
 -- If an answer to a call may come, the call worked in the same transaction before the event.
-was_inside : (H : List Event) (last : Event) (e : Entry) (k : ℕ) → may_come H e ≡ true → scope (work (last ∷ H) e.call_no) ≡ Tx k → scope (work H e.call_no) ≡ Tx k
+was_inside : (H : List Event) (last : Event) (e : Entry) (k : ℕ) → may_come H e ≡ true → scope (work (last ∷ H) e.call_no) ≡ Held k → scope (work H e.call_no) ≡ Held k
 was_inside H last e k may is =
     let some = number_not (last ∷ H) e.call_no k is in
     sym (ap scope (of_works.work_stays H last e.call_no (sent_no_look H e may some))) ∙ is
 
-sent_heard : (H : List Event) (e : Entry) → Allowed H (Heard e) → Inside H → (m k c : ℕ) → has_sent m (journal (Heard e ∷ H) c) ≡ true → scope (work H m) ≡ Tx k → is_begun H k ≡ true
+sent_heard : (H : List Event) (e : Entry) → Allowed H (Heard e) → Inside H → (m k c : ℕ) → has_sent m (journal (Heard e ∷ H) c) ≡ true → scope (work H m) ≡ Held k → is_begun H k ≡ true
 sent_heard H e a i m k c h is = by (e.conn == c) (e.call_no == m) refl h
   where
     by : (b own : Bool) → (e.call_no == m) ≡ own → has_sent m (cond b (e ∷ journal H c) (journal H c)) ≡ true → is_begun H k ≡ true
     by true true its x =
         let same = same_number e.call_no m its in
-        let scoped : scope (work H e.call_no) ≡ Tx k = ap (λ j. scope (work H j)) same ∙ is in
+        let scoped : scope (work H e.call_no) ≡ Held k = ap (λ j. scope (work H j)) same ∙ is in
         let there = heard_there H e a in
         i.coming e k (comes H e (place H e.conn) there.sets there.line (number_not H e.call_no k scoped)) scoped
     by true false its x = i.sent m k c (sym (ap (λ b. b || has_sent m (journal H c)) its) ∙ x) is
     by false own its x = i.sent m k c x is
 
-sent_entering : (H : List Event) (client n : ℕ) (op : Op) → Lawful (Entered client n op ∷ H) → Inside H → (m k c : ℕ) → has_sent m (journal H c) ≡ true → scope (work (Entered client n op ∷ H) m) ≡ Tx k → is_begun H k ≡ true
+sent_entering : (H : List Event) (client n : ℕ) (op : Op) → Lawful (Entered client n op ∷ H) → Inside H → (m k c : ℕ) → has_sent m (journal H c) ≡ true → scope (work (Entered client n op ∷ H) m) ≡ Held k → is_begun H k ≡ true
 sent_entering H client n op l i m k c h is =
     let numbered : m ≢ 0 = λ none. absurd (wrong (ap (λ j. j == 0) none) (number_not (Entered client n op ∷ H) m k is)) in
     let less = sent_entered H c m l.0 numbered h in
@@ -221,7 +218,7 @@ entered_goes H client m op n k goes hands lives = goes
 -- Rows that are live after an answer were live before it, or the answer made them.
 pub heard_live : (H : List Event) (it : Work) (m : ℕ) (q : DriverCall) (a : DriverAnswer) (n : ℕ) (R : Made) → live (rows_of n (rows_heard H it m q a R)) ≡ true
     → (live (rows_of n R) ≡ true) ⊎ ((n ≡ m) × ((k : ℕ) → hands_out_in k it ≡ true → is_over H k ≡ false))
-heard_live H (HandOut s label) m (Query input params) (Cursor cursor columns) n R h = more R h
+heard_live H (Statement s (HandOut label)) m (Query input params) (Cursor cursor columns) n R h = more R h
   where
     late : is_live (born (is_late H s) (fresh cursor columns)) ≡ true → (k : ℕ) → is_in k s ≡ true → is_over H k ≡ false
     late lives k its = by s its lives
@@ -231,7 +228,7 @@ heard_live H (HandOut s label) m (Query input params) (Cursor cursor columns) n 
         when false x = refl
 
         by : (t : Scope) → is_in k t ≡ true → is_live (born (is_late H t) (fresh cursor columns)) ≡ true → is_over H k ≡ false
-        by (Tx j) i x = when (is_over H k) (ap (λ b. is_live (born b (fresh cursor columns))) (ap (is_over H) (sym (same_number j k i))) ∙ x)
+        by (Held j) i x = when (is_over H k) (ap (λ b. is_live (born b (fresh cursor columns))) (ap (is_over H) (sym (same_number j k i))) ∙ x)
         by Db i x = absurd cc
 
     more : (S : Made) → live (rows_of n (S ++ (m, born (is_late H s) (fresh cursor columns)) ∷ [])) ≡ true → (live (rows_of n S) ≡ true) ⊎ ((n ≡ m) × ((k : ℕ) → is_in k s ≡ true → is_over H k ≡ false))
@@ -271,8 +268,9 @@ live_goes (Heard e ∷ H) n k l lives hands = by (live_goes H n k l.0) (heard_li
     going : goes_on H k ≡ true → goes_on (Heard e ∷ H) k ≡ true
     going goes = let b = both (is_begun H k) (not (is_over H k)) goes in still true (heard_tx H e k) b.0 goes
 
-    scoped : (w : Work) → hands_out_in k w ≡ true → scope w ≡ Tx k
-    scoped (HandOut (Tx j) label) x = ap Tx (same_number j k x)
+    scoped : (w : Work) → hands_out_in k w ≡ true → scope w ≡ Held k
+    scoped (Statement (Held j) (HandOut label)) x = ap Held (same_number j k x)
+    scoped (Statement Db (HandOut label)) x = absurd cc
     scoped w x = absurd cc
 
     by : (are_live H n ≡ true → hands_out_in k (work H n) ≡ true → goes_on H k ≡ true) → (live (rows_by H n) ≡ true) ⊎ ((n ≡ e.call_no) × ((j : ℕ) → hands_out_in j (work H e.call_no) ≡ true → is_over H j ≡ false)) → goes_on (Heard e ∷ H) k ≡ true

@@ -24,7 +24,8 @@ use Rattle.dsql_laws.proofs.Tests.{same_itself}
 use Rattle.dsql_laws.specs.history.declared.event.Event.{Event}
 use Rattle.dsql_laws.specs.history.declared.event.Event.TheVariants.{Heard}
 use Rattle.dsql_laws.specs.history.declared.work.Work.{Work}
-use Rattle.dsql_laws.specs.history.declared.work.Work.TheVariants.{HandOut}
+use Rattle.dsql_laws.specs.history.declared.work.Task.TheVariants.{HandOut}
+use Rattle.dsql_laws.specs.history.declared.work.Work.TheVariants.{Statement}
 use Rattle.dsql_laws.specs.history.Readers.Works.{aim_of}
 use Rattle.dsql_laws.specs.history.Readers.Journals.{journal}
 use Rattle.dsql_laws.specs.history.Readers.Lines.{is_about, line_among, has_sent}
@@ -121,12 +122,12 @@ known_bad m t J h = by (went_bad J) refl
 -- Rows whose cursor stands in a line were made.
 
 pub hands_of : (w : Work) (made : List Exchange) → is_some (handed (aim_of w) made) ≡ true → hands_out w ≡ true
-hands_of (HandOut s label) made h = refl
+hands_of (Statement s (HandOut label)) made h = refl
 hands_of w made h = absurd cc
 
 -- A driver call that gives a cursor to a line is a query of the line's call.
 pub query_makes : (H : List Event) (w : Work) (m : ℕ) (q : DriverCall) (a : DriverAnswer) (R : Made) → hands_out w ≡ true → fits_of q a ≡ true → is_some (given_cursor (got_of a)) ≡ true → is_some (step_of q) ≡ true → is_some (rows_of m (rows_heard H w m q a R)) ≡ true
-query_makes H (HandOut s label) m (calls.Query input params) (answers.Cursor cursor columns) R h f g t = more R
+query_makes H (Statement s (HandOut label)) m (calls.Query input params) (answers.Cursor cursor columns) R h f g t = more R
   where
     more : (S : Made) → is_some (rows_of m (S ++ (m, born (is_late H s) (fresh cursor columns)) ∷ [])) ≡ true
     more [] = ap (λ b. is_some (cond b (Some (born (is_late H s) (fresh cursor columns))) None)) (same_itself m)
@@ -135,10 +136,10 @@ query_makes H (HandOut s label) m (calls.Query input params) (answers.Cursor cur
         at : is_some (rows_of m (S ++ (m, born (is_late H s) (fresh cursor columns)) ∷ [])) ≡ true → (b : Bool) → is_some (cond b (Some x.1) (rows_of m (S ++ (m, born (is_late H s) (fresh cursor columns)) ∷ []))) ≡ true
         at rest true = refl
         at rest false = rest
-query_makes H (HandOut s label) m (calls.Exec (Text text) params) (answers.Cursor cursor columns) R h f g t = absurd cc
-query_makes H (HandOut s label) m (calls.Exec (Handle handle) params) (answers.Cursor cursor columns) R h f g t = absurd cc
-query_makes H (HandOut s label) m q (answers.Cursor cursor columns) R h f g t = absurd cc
-query_makes H (HandOut s label) m q a R h f g t = absurd cc
+query_makes H (Statement s (HandOut label)) m (calls.Exec (Text text) params) (answers.Cursor cursor columns) R h f g t = absurd cc
+query_makes H (Statement s (HandOut label)) m (calls.Exec (Handle handle) params) (answers.Cursor cursor columns) R h f g t = absurd cc
+query_makes H (Statement s (HandOut label)) m q (answers.Cursor cursor columns) R h f g t = absurd cc
+query_makes H (Statement s (HandOut label)) m q a R h f g t = absurd cc
 query_makes H w m q a R h f g t = absurd cc
 
 pub about_gives : (made : List Exchange) (q : DriverCall) (a : DriverAnswer) → is_about made q ≡ true → fits_of q a ≡ true → is_some (given_cursor (got_of a)) ≡ true → ⊥

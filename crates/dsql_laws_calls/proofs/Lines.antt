@@ -24,7 +24,7 @@ use Rattle.dsql_laws.proofs.Tests.{both, same_itself}
 use Rattle.dsql_laws.specs.history.declared.event.Event.{Event}
 use Rattle.dsql_laws.specs.history.declared.event.Event.TheVariants.{Run, Heard}
 use Rattle.dsql_laws.specs.history.declared.work.Scope.{Scope}
-use Rattle.dsql_laws.specs.history.declared.work.Scope.TheVariants.{Db, Tx}
+use Rattle.dsql_laws.specs.history.declared.work.Scope.TheVariants.{Db, Held}
 use Rattle.dsql_laws.specs.history.declared.work.Work.{Work}
 use Rattle.dsql_laws.specs.history.declared.work.Work.TheVariants as works_of
 use Rattle.dsql_laws.specs.history.declared.work.Work.TheVariants.{Look}
@@ -125,7 +125,7 @@ after_closes can reset asked (e ∷ earlier) h =
 with_closes : (S : Sender) (it : Work) (s : Scope) (L : List Entry) → is_some (line_for it s (record S { wish = wishes.Nothing }) L) ≡ true → is_some (line_for it s (record S { wish = wishes.Close }) L) ≡ true
 with_closes S (works_of.Begin label level read_only) s L h = h
 with_closes S it Db L h = after_closes S.can S.reset_due S.asked L h
-with_closes S it (Tx k) L h = inner_closes (untested S.can) S.bad S.asked (exchanges L) (handed S.asked.aim (exchanges L)) h
+with_closes S it (Held k) L h = inner_closes (untested S.can) S.bad S.asked (exchanges L) (handed S.asked.aim (exchanges L)) h
 
 pub closes_too : (H : List Event) (c t : ℕ) (own : Owner) (n : ℕ) → is_some (line_there H c t own n wishes.Nothing) ≡ true → is_some (line_there H c t own n wishes.Close) ≡ true
 closes_too H c t own n h = with_closes (sender H n c wishes.Nothing) (work H n) (scope (work H n)) (line_in own n (heard_in H c t)) h

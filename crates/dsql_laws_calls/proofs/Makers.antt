@@ -35,10 +35,12 @@ use Rattle.dsql_laws.specs.history.declared.event.Event.TheVariants.{Entered, He
 use Rattle.dsql_laws.specs.history.declared.event.Op.{Op}
 use Rattle.dsql_laws.specs.history.declared.event.Op.TheVariants as ops
 use Rattle.dsql_laws.specs.history.declared.work.Scope.{Scope}
-use Rattle.dsql_laws.specs.history.declared.work.Scope.TheVariants.{Db, Tx as In}
+use Rattle.dsql_laws.specs.history.declared.work.Scope.TheVariants.{Db, Held as In}
 use Rattle.dsql_laws.specs.history.declared.work.Work.{Work}
+use Rattle.dsql_laws.specs.history.declared.work.Task.TheVariants as tasks
 use Rattle.dsql_laws.specs.history.declared.work.Work.TheVariants as works_of
-use Rattle.dsql_laws.specs.history.declared.work.Work.TheVariants.{Fetch, HandOut}
+use Rattle.dsql_laws.specs.history.declared.work.Task.TheVariants.{HandOut}
+use Rattle.dsql_laws.specs.history.declared.work.Work.TheVariants.{Statement, Fetch}
 use Rattle.dsql_laws.specs.history.Readers.Course.{caps}
 use Rattle.dsql_laws.specs.history.Readers.Unfinished.{is_unfinished}
 use Rattle.dsql_laws.specs.history.Readers.Works.{works, work, rows_maker, tx_maker, scope, hands_out_in, is_fetch}
@@ -58,11 +60,11 @@ use Rattle.dsql_laws_calls.proofs.Plain.{begins_none, begins, no_begin_due, plai
 
 -- Is true if the call hands out rows.
 abbrev pub hands_out : Work → Bool
-hands_out (HandOut s label) = true
+hands_out (Statement s (HandOut label)) = true
 hands_out it = false
 
 pub hands_no_look : (it : Work) → hands_out it ≡ true → is_look it ≡ false
-hands_no_look (HandOut s label) h = refl
+hands_no_look (Statement s (HandOut label)) h = refl
 hands_no_look it h = absurd cc
 
 pub some_changed : (f : Rows → Rows) (k n : ℕ) (R : Made) → is_some (rows_of n (changed f k R)) ≡ is_some (rows_of n R)
@@ -108,7 +110,7 @@ some_entered H op n R = refl
 -- An answer makes rows only for its own call, which then hands out rows.
 pub some_heard : (H : List Event) (it : Work) (m : ℕ) (q : DriverCall) (a : DriverAnswer) (n : ℕ) (R : Made) → is_some (rows_of n (rows_heard H it m q a R)) ≡ true
     → (is_some (rows_of n R) ≡ true) ⊎ ((n ≡ m) × (hands_out it ≡ true))
-some_heard H (HandOut s label) m (Query input params) (Cursor cursor columns) n R h = by (some_more n m (born (is_late H s) (fresh cursor columns)) R h)
+some_heard H (Statement s (HandOut label)) m (Query input params) (Cursor cursor columns) n R h = by (some_more n m (born (is_late H s) (fresh cursor columns)) R h)
   where
     by : (is_some (rows_of n R) ≡ true) ⊎ (n ≡ m) → (is_some (rows_of n R) ≡ true) ⊎ ((n ≡ m) × (true ≡ true))
     by (inl were) = inl were
@@ -131,7 +133,7 @@ rows_hand_out (Ended ∷ H) n h = rows_hand_out H n (sym (some_mapped (λ k. end
 rows_hand_out (_ ∷ H) n h = rows_hand_out H n h
 
 begins_nothing : (it : Work) → hands_out it ≡ true → begins it ≡ false
-begins_nothing (HandOut s label) h = refl
+begins_nothing (Statement s (HandOut label)) h = refl
 begins_nothing it h = absurd cc
 
 pub rows_begin_nothing : (H : List Event) (n : ℕ) → is_some (rows_by H n) ≡ true → begins (work H n) ≡ false
@@ -239,9 +241,9 @@ due_begins H m some not_begin = cond_begins (is_unfinished H m) (due_in H m (wor
     by (works_of.Close k) is = over_rows k
     by (works_of.End k) is = cond_begins (tx_ender H k == m) (ending H k) None (ending_begins H k) refl
     by works_of.Look is = refl
-    by (works_of.Execute s) is = inside s
-    by (works_of.ReadOne s dests) is = inside s
-    by (works_of.HandOut s label) is = inside s
+    by (works_of.Statement s tasks.Execute) is = inside s
+    by (works_of.Statement s (tasks.ReadOne dests)) is = inside s
+    by (works_of.Statement s (tasks.HandOut label)) is = inside s
     by (works_of.Begin label level read_only) is = inside Db
     by works_of.Ping is = inside Db
 

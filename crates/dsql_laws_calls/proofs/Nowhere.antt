@@ -9,7 +9,7 @@ use Rattle.dsql_laws.specs.history.Readers.Tries.{try_number, has_a_try, was_ser
 use Rattle.dsql_laws.proofs.Tests.{together}
 use Rattle.dsql_laws_calls.specs.Nothing.{HasNothing, is_elsewhere}
 use Rattle.dsql_laws.specs.history.declared.work.Work.{Work}
-use Rattle.dsql_laws.specs.history.declared.work.Work.TheVariants.{Execute, ReadOne, HandOut, Begin, Ping, Close, Look}
+use Rattle.dsql_laws.specs.history.declared.work.Work.TheVariants.{Statement, Begin, Ping, Close, Look}
 use Rattle.dsql_laws.specs.history.Readers.Works.{asks, work}
 use Rattle.dsql_laws.specs.history.declared.event.Event.{Event}
 use Rattle.dsql_laws.specs.history.declared.reply.Reply.{Reply}
@@ -45,9 +45,7 @@ last_fails true true true false o h ha hb hc hd = absurd cc
 -- The call asks for a connection.
 
 pub told_own : (H : List Event) (n : ℕ) (w : Work) → asks w ≡ true → told_of_work H n w ≡ told_by_tries H w (tries H n)
-told_own H n (Execute Db) own = refl
-told_own H n (ReadOne Db dests) own = refl
-told_own H n (HandOut Db label) own = refl
+told_own H n (Statement Db task) own = refl
 told_own H n (Begin label level read_only) own = refl
 told_own H n Ping own = refl
 told_own H n w own = absurd cc
@@ -84,9 +82,7 @@ settled_unserved H n l u nothing may none here = by (work H n) refl here
     own w is asking = let its = ap asks is ∙ asking in unserved H n l its u (nothing its) may none
 
     by : (w : Work) → work H n ≡ w → is_elsewhere w ≡ false → is_some (reply_due H n) ≡ true
-    by (Execute Db) is at = own (Execute Db) is refl
-    by (ReadOne Db dests) is at = own (ReadOne Db dests) is refl
-    by (HandOut Db label) is at = own (HandOut Db label) is refl
+    by (Statement Db task) is at = own (Statement Db task) is refl
     by (Begin label level read_only) is at = own (Begin label level read_only) is refl
     by Ping is at = own Ping is refl
     by (Close k) is at = others_settled (decided H n) (told_of_work H n (work H n)) (told_at_lending H n) (ap (λ w. is_some (told_of_work H n w)) is)

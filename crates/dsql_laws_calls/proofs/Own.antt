@@ -18,7 +18,7 @@ use Rattle.dsql_laws.proofs.Wanted.{wanted}
 use Rattle.dsql_laws.specs.history.declared.event.Event.{Event}
 use Rattle.dsql_laws.specs.history.declared.work.Scope.TheVariants.{Db}
 use Rattle.dsql_laws.specs.history.declared.work.Work.{Work}
-use Rattle.dsql_laws.specs.history.declared.work.Work.TheVariants.{Execute, ReadOne, HandOut, Begin, Ping}
+use Rattle.dsql_laws.specs.history.declared.work.Work.TheVariants.{Statement, Begin, Ping}
 use Rattle.dsql_laws.specs.history.Readers.Unfinished.{is_unfinished}
 use Rattle.dsql_laws.specs.history.Readers.Works.{work, asks, borrower}
 use Rattle.dsql_laws.specs.history.Readers.Pool.{pool, place}
@@ -46,9 +46,7 @@ pub asks_own : (H : List Event) (n : ℕ) → asks (work H n) ≡ true → borro
 asks_own H n own = by (work H n) refl own
   where
     by : (w : Work) → work H n ≡ w → asks w ≡ true → borrower H n ≡ n
-    by (Execute Db) is h = rw is refl
-    by (ReadOne Db dests) is h = rw is refl
-    by (HandOut Db label) is h = rw is refl
+    by (Statement Db task) is h = rw is refl
     by (Begin label level read_only) is h = rw is refl
     by Ping is h = rw is refl
     by w is h = absurd cc
@@ -102,9 +100,7 @@ pub own_sends : (H : List Event) (e : Entry) → (u : OwnWay H e) → is_some (l
 own_sends H e u = some_due (line_there H e.conn e.tenure u.owner (number_of u.owner) wishes.Nothing) e.call u.due
 
 pub due_line : (H : List Event) (m : ℕ) (w : Work) → asks w ≡ true → due_in H m w ≡ line_of H m wishes.Nothing
-due_line H m (Execute Db) own = refl
-due_line H m (ReadOne Db dests) own = refl
-due_line H m (HandOut Db label) own = refl
+due_line H m (Statement Db task) own = refl
 due_line H m (Begin label level read_only) own = refl
 due_line H m Ping own = refl
 due_line H m w own = absurd cc

@@ -26,7 +26,7 @@ use Rattle.dsql_laws.specs.works.Exchanges.{exchanges}
 use Rattle.dsql_laws.specs.works.Line.{Asked, test_of, run_for, sent_as, sent_over, handed, found, body_with, body_after, course_of, line_after}
 use Rattle.dsql_laws.specs.history.declared.event.Event.{Event}
 use Rattle.dsql_laws.specs.history.declared.work.Scope.{Scope}
-use Rattle.dsql_laws.specs.history.declared.work.Scope.TheVariants.{Db, Tx}
+use Rattle.dsql_laws.specs.history.declared.work.Scope.TheVariants.{Db, Held}
 use Rattle.dsql_laws.specs.history.declared.work.Work.{Work}
 use Rattle.dsql_laws.specs.history.declared.work.Work.TheVariants as works
 use Rattle.dsql_laws.specs.history.Readers.Works.{work, scope, borrower}
@@ -141,7 +141,7 @@ begins w = false
 with_plain : (S : Sender) (it : Work) (s : Scope) (L : List Entry) → begins it ≡ false → is_plain (line_for it s S L) ≡ true
 with_plain S (works.Begin label level read_only) s L not_begin = absurd cc
 with_plain S it Db L not_begin = line_plain S.can S.reset_due S.asked S.wish L
-with_plain S it (Tx k) L not_begin = inner_plain (untested S.can) S.bad S.asked S.wish (exchanges L) (handed S.asked.aim (exchanges L))
+with_plain S it (Held k) L not_begin = inner_plain (untested S.can) S.bad S.asked S.wish (exchanges L) (handed S.asked.aim (exchanges L))
 
 at_plain : (H : List Event) (n : ℕ) (w : Wish) (c : ℕ) (at : Option Place) → begins (work H n) ≡ false → is_plain (line_at H n w c at) ≡ true
 at_plain H n w c (Some (Lent t o)) not_begin =

@@ -13,7 +13,8 @@ use Rattle.dsql_laws.specs.rows.OpenRows.{fresh, is_live, ended_by, rows_of}
 use Rattle.dsql_laws.specs.works.HandedOut.{Made}
 use Rattle.dsql_laws.specs.history.Readers.HandedOut.{live, rows_heard, rows_entered, handed_out, are_live, caller, ended_at, ender, born, is_late, end_in, ended_with, last_end, rows_by}
 use Rattle.dsql_laws.specs.history.declared.work.Work.{Work}
-use Rattle.dsql_laws.specs.history.declared.work.Work.TheVariants.{HandOut, Fetch, Close, End}
+use Rattle.dsql_laws.specs.history.declared.work.Task.TheVariants.{HandOut}
+use Rattle.dsql_laws.specs.history.declared.work.Work.TheVariants.{Statement, Fetch, Close, End}
 use Rattle.dsql_laws.specs.history.declared.event.Event.{Event}
 use Rattle.dsql_laws.specs.history.declared.event.Event.TheVariants.{Entered, Heard, Ended}
 use Rattle.dsql_laws.specs.history.declared.event.Op.{Op}
@@ -120,8 +121,8 @@ closes_only H op n was now = absurd (never (sym was ∙ now))
 fetches_only : (H : List Event) (it : Work) (m : ℕ) (q : DriverCall) (a : DriverAnswer) (R : Made) (n : ℕ) → are_live_in n R ≡ true → are_live_in n (rows_heard H it m q a R) ≡ false → is_worker it ≡ true
 fetches_only H (Fetch k) m q a R n was now = refl
 fetches_only H (Close k) m q a R n was now = refl
-fetches_only H (HandOut s label) m (Query input params) (Cursor cursor columns) R n was now = absurd (never (sym (live_in_more n m (born (is_late H s) (fresh cursor columns)) R was) ∙ now))
-fetches_only H (HandOut s label) m q a R n was now = absurd (never (sym was ∙ now))
+fetches_only H (Statement s (HandOut label)) m (Query input params) (Cursor cursor columns) R n was now = absurd (never (sym (live_in_more n m (born (is_late H s) (fresh cursor columns)) R was) ∙ now))
+fetches_only H (Statement s (HandOut label)) m q a R n was now = absurd (never (sym was ∙ now))
 fetches_only H it m q a R n was now = absurd (never (sym was ∙ now))
 
 -- If an event of a call ends live rows, that call fetches from rows, closes them, or ends a transaction.

@@ -11,9 +11,10 @@ use Rattle.dsql_laws.specs.history.Readers.HandedOut.{live, handed_out, rows_by,
 use Rattle.dsql_laws.proofs.Tests.{same_number, same_itself}
 use Rattle.dsql_laws.specs.history.declared.event.Event.{Event}
 use Rattle.dsql_laws.specs.history.declared.event.Event.TheVariants.{Entered, Heard, Ended}
-use Rattle.dsql_laws.specs.history.declared.work.Scope.TheVariants.{Db, Tx}
+use Rattle.dsql_laws.specs.history.declared.work.Scope.TheVariants.{Db, Held}
 use Rattle.dsql_laws.specs.history.declared.work.Work.{Work}
-use Rattle.dsql_laws.specs.history.declared.work.Work.TheVariants.{HandOut, Fetch, Look}
+use Rattle.dsql_laws.specs.history.declared.work.Task.TheVariants.{HandOut}
+use Rattle.dsql_laws.specs.history.declared.work.Work.TheVariants.{Statement, Fetch, Look}
 use Rattle.dsql_laws.specs.history.Readers.Works.{work, asks, borrower, hands_out_in}
 use Rattle.dsql_laws.specs.history.Readers.Pool.{place, home}
 use Rattle.dsql_laws.specs.history.Readers.Transactions.{is_over, goes_on}
@@ -79,11 +80,11 @@ live_used H n h = later (goes_on H n) (are_live H n) h
 
 -- Is true if the call is a query on the database. Live rows of such a query keep its connection.
 abbrev on_db : Work → Bool
-on_db (HandOut Db label) = true
+on_db (Statement Db (HandOut label)) = true
 on_db w = false
 
 asks_on_db : (w : Work) → on_db w ≡ true → asks w ≡ true
-asks_on_db (HandOut Db label) h = refl
+asks_on_db (Statement Db (HandOut label)) h = refl
 asks_on_db w h = absurd cc
 
 was_on_db : (H : List Event) (e : Event) (n : ℕ) → is_some (rows_by H n) ≡ true → on_db (work (e ∷ H) n) ≡ true → on_db (work H n) ≡ true
@@ -144,8 +145,8 @@ rows_keep H n rows l is h = by (work H n) refl (rows_hand_out H n (live_some (ro
     lives = is_live_some (rows_by H n) rows is h
 
     by : (w : Work) → work H n ≡ w → hands_out w ≡ true → KeepsItsConnection H n
-    by (HandOut Db label) its x = keeps H n n l (rw its refl) (db_borrows H n l (is_live_some (rows_by H n) rows is h) (ap on_db its))
-    by (HandOut (Tx k) label) its x = keeps H n k l (rw its refl) (tx_borrows H k l (live_goes H n k l (is_live_some (rows_by H n) rows is h) (ap (hands_out_in k) its ∙ same_itself k)))
+    by (Statement Db (HandOut label)) its x = keeps H n n l (rw its refl) (db_borrows H n l (is_live_some (rows_by H n) rows is h) (ap on_db its))
+    by (Statement (Held k) (HandOut label)) its x = keeps H n k l (rw its refl) (tx_borrows H k l (live_goes H n k l (is_live_some (rows_by H n) rows is h) (ap (hands_out_in k) its ∙ same_itself k)))
     by w its x = absurd cc
 
 -- A fetch is for rows that were made.

@@ -29,9 +29,10 @@ use Rattle.dsql_laws.proofs.Tests.{same_number, same_itself}
 use Rattle.dsql_laws.proofs.Wanted.{wanted}
 use Rattle.dsql_laws.specs.history.declared.event.Event.{Event}
 use Rattle.dsql_laws.specs.history.declared.event.Event.TheVariants.{Run, Entered, Heard, Pool, Waits, Ticked, SetLimit, Replied, Ended}
-use Rattle.dsql_laws.specs.history.declared.work.Scope.TheVariants.{Db, Tx}
+use Rattle.dsql_laws.specs.history.declared.work.Scope.TheVariants.{Db, Held}
 use Rattle.dsql_laws.specs.history.declared.work.Work.{Work}
-use Rattle.dsql_laws.specs.history.declared.work.Work.TheVariants.{HandOut, Fetch}
+use Rattle.dsql_laws.specs.history.declared.work.Task.TheVariants.{HandOut}
+use Rattle.dsql_laws.specs.history.declared.work.Work.TheVariants.{Statement, Fetch}
 use Rattle.dsql_laws.specs.history.Readers.Course.{caps}
 use Rattle.dsql_laws.specs.history.Readers.Works.{work, scope, asks, borrower, hands_out_in, aim_of}
 use Rattle.dsql_laws.specs.history.Readers.Journals.{heard_in}
@@ -112,8 +113,8 @@ holds L = is_some (own_cursor (exchanges L))
 
 heard_gives : (H : List Event) (it : Work) (m : ℕ) (q : DriverCall) (a : DriverAnswer) (n : ℕ) (R : Made) → is_some (rows_of n (rows_heard H it m q a R)) ≡ true
     → (is_some (rows_of n R) ≡ true) ⊎ ((is_some (given_cursor (got_of a)) ≡ true) × (is_some (step_of q) ≡ true))
-heard_gives H (HandOut s label) m (Query (Text text) params) (Cursor cursor columns) n R h = inr (refl, refl)
-heard_gives H (HandOut s label) m (Query (Handle handle) params) (Cursor cursor columns) n R h = inr (refl, refl)
+heard_gives H (Statement s (HandOut label)) m (Query (Text text) params) (Cursor cursor columns) n R h = inr (refl, refl)
+heard_gives H (Statement s (HandOut label)) m (Query (Handle handle) params) (Cursor cursor columns) n R h = inr (refl, refl)
 heard_gives H (Fetch k) m (Next cursor) a n R h = inl (sym (some_changed (fetched a) k n R) ∙ h)
 heard_gives H _ m q a n R h = inl h
 
@@ -203,13 +204,13 @@ rows_new H e own input params l h is call query = by (rows_by H e.call_no) refl
     some_cursor (Some r) k = (r, refl)
 
     contradiction : (v : UnderWay H e) → v.owner ≡ own → e.call_no ≢ 0 → (w : Work) → work H e.call_no ≡ w → hands_out w ≡ true → is_some (rows_by H e.call_no) ≡ true → ⊥
-    contradiction v same numbered_so (HandOut (Tx k) label) its x some =
+    contradiction v same numbered_so (Statement (Held k) (HandOut label)) its x some =
         let begun = rows_begun H e.call_no k l some (ap (hands_out_in k) its ∙ same_itself k) in
         let uses : borrower H e.call_no ≡ k = rw its refl in
         let number : number_of own ≡ k = ap number_of (sym same) ∙ (sym (v.borrowed numbered_so) ∙ uses) in
         let mine : is_begun H (number_of own) ≡ true = ap (is_begun H) number ∙ begun in
         wrong (sym call ∙ begin_owner H e.conn e.tenure own l is (begun_begins H (number_of own) l mine))
-    contradiction v same numbered_so (HandOut Db label) its x some =
+    contradiction v same numbered_so (Statement Db (HandOut label)) its x some =
         let uses : borrower H e.call_no ≡ e.call_no = rw its refl in
         let number : number_of v.owner ≡ e.call_no = sym (v.borrowed numbered_so) ∙ uses in
         let line = v.line (ap is_call same ∙ call) in

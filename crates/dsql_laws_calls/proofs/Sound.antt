@@ -18,7 +18,7 @@ use Rattle.dsql_laws_work.proofs.MadeLines.{MadeAt}
 use Rattle.dsql_laws.specs.history.Rules.Wishes.{newest_sender}
 use Rattle.dsql_laws.proofs.Tests.{same_number, same_itself, together}
 use Rattle.dsql_laws.specs.history.declared.event.Event.{Event}
-use Rattle.dsql_laws.specs.history.declared.work.Scope.TheVariants.{Tx}
+use Rattle.dsql_laws.specs.history.declared.work.Scope.TheVariants.{Held}
 use Rattle.dsql_laws.specs.history.declared.work.Work.{Work}
 use Rattle.dsql_laws.specs.history.Readers.Course.{caps}
 use Rattle.dsql_laws.specs.history.Readers.Unfinished.{is_unfinished}
@@ -104,13 +104,13 @@ made_none can asked L none = rw none refl
 pub ends_same : (H : List Event) (e : Event) → Sound H → (c t : ℕ) (own : Owner) → place H c ≡ Some (Lent t own) → journal (e ∷ H) c ≡ journal H c → is_over (e ∷ H) (number_of own) ≡ false → ended_there (heard_in (e ∷ H) c t) ≡ false
 ends_same H e s c t own is J on = let f = s.facts in ap (λ L. ended_there (of_tenure t L)) J ∙ f.ends c t own is (was_over H e (number_of own) on)
 
-pub going_same : (H : List Event) (e : Event) → Lawful (e ∷ H) → Sound H → (c t : ℕ) (own : Owner) → place H c ≡ Some (Lent t own) → journal (e ∷ H) c ≡ journal H c → (m : ℕ) → scope (work (e ∷ H) m) ≡ Tx (number_of own)
+pub going_same : (H : List Event) (e : Event) → Lawful (e ∷ H) → Sound H → (c t : ℕ) (own : Owner) → place H c ≡ Some (Lent t own) → journal (e ∷ H) c ≡ journal H c → (m : ℕ) → scope (work (e ∷ H) m) ≡ Held (number_of own)
     → is_unfinished (e ∷ H) m ≡ true → has_sent m (journal (e ∷ H) c) ≡ true → Going (e ∷ H) c t m
 going_same H e l s c t own is J m inner u sent =
     let f = s.facts in
     let before : has_sent m (journal H c) ≡ true = sym (ap (has_sent m) J) ∙ sent in
     let same = sender_work H e m c (number_of own) l before inner in
-    let was : scope (work H m) ≡ Tx (number_of own) = sym (ap scope same) ∙ inner in
+    let was : scope (work H m) ≡ Held (number_of own) = sym (ap scope same) ∙ inner in
     let busy = inside_busy (work H m) (number_of own) was in
     going_as H (e ∷ H) c t m (caps_stay H e c (Lent t own) l.1 is) (asked_stays H e m busy) same J (f.going c t own is m was (was_unfinished H e m l.1 busy u) before)
 
@@ -145,7 +145,7 @@ quiet_facts H e l none s = record {
     fresh : (c t : ℕ) (own : Owner) (k : ℕ) → e ≡ Pool (Lend c t own k) → heard_in (e ∷ H) c t ≡ []
     fresh c t own k is = ap (of_tenure t) (heard_same H e c none) ∙ fresh_lending H c t own k l.0 (subst (λ x. Allowed H x) is l.1)
 
-    begun_before : (c t : ℕ) (own : Owner) (k : ℕ) → e ≡ Pool (Lend c t own k) → (m : ℕ) → scope (work (e ∷ H) m) ≡ Tx (number_of own) → has_sent m (journal (e ∷ H) c) ≡ true → Going (e ∷ H) c t m
+    begun_before : (c t : ℕ) (own : Owner) (k : ℕ) → e ≡ Pool (Lend c t own k) → (m : ℕ) → scope (work (e ∷ H) m) ≡ Held (number_of own) → has_sent m (journal (e ∷ H) c) ≡ true → Going (e ∷ H) c t m
     begun_before c t own k is m inner sent =
         let before : has_sent m (journal H c) ≡ true = sym (ap (has_sent m) (heard_same H e c none)) ∙ sent in
         let same = sender_work H e m c (number_of own) l before inner in
@@ -238,7 +238,7 @@ read_unhanded aim made is = ap (λ a. handed a made) is
 record At (H : List Event) (e : Entry) (c t : ℕ) (own : Owner) (m : ℕ) : Type 0 where
   lent : place H c ≡ Some (Lent t own)
   here : e.conn ≡ c
-  inner : scope (work H m) ≡ Tx (number_of own)
+  inner : scope (work H m) ≡ Held (number_of own)
   begun : is_begun H (number_of own) ≡ true
   unfinished : is_unfinished H m ≡ true
 
@@ -292,7 +292,7 @@ going_other H e c t own m l s p other (inr (inl n)) = by (handed_there H c t m) 
         turn : (u : UnderWay H e) → u.owner ≡ own → e.tenure ≡ t → is_some (line_there H c t own m wishes.Nothing) ≡ false
         turn u same tenure =
             let newest : newest_sender (heard_in H e.conn e.tenure) ≡ m = subst (λ d. newest_sender (heard_in H d e.tenure) ≡ m) (sym p.here) (subst (λ v. newest_sender (heard_in H c v) ≡ m) (sym tenure) n.sender) in
-            let inner : scope (work H m) ≡ Tx (number_of u.owner) = subst (λ o. scope (work H m) ≡ Tx (number_of o)) (sym same) p.inner in
+            let inner : scope (work H m) ≡ Held (number_of u.owner) = subst (λ o. scope (work H m) ≡ Held (number_of o)) (sym same) p.inner in
             let none = u.turn m apart newest inner p.unfinished in
             subst (λ o. is_some (line_there H c t o m wishes.Nothing) ≡ false) same
             (subst (λ v. is_some (line_there H c v u.owner m wishes.Nothing) ≡ false) tenure
@@ -370,7 +370,7 @@ going_own H e c t own m l p its way before = by way.left
         }))
     by (inr h) = going_handed H e c t own m l p h
 
-pub going_heard : (H : List Event) (e : Entry) → Lawful (Heard e ∷ H) → Sound H → (c t : ℕ) (own : Owner) → place H c ≡ Some (Lent t own) → e.conn ≡ c → (m : ℕ) → scope (work H m) ≡ Tx (number_of own) → is_unfinished H m ≡ true
+pub going_heard : (H : List Event) (e : Entry) → Lawful (Heard e ∷ H) → Sound H → (c t : ℕ) (own : Owner) → place H c ≡ Some (Lent t own) → e.conn ≡ c → (m : ℕ) → scope (work H m) ≡ Held (number_of own) → is_unfinished H m ≡ true
     → has_sent m (journal (Heard e ∷ H) c) ≡ true → Going (Heard e ∷ H) c t m
 going_heard H e l s c t own is here m inner u sent =
     let w = was_under_way H e t own l.1 s (ap (place H) here ∙ is) in
@@ -382,7 +382,7 @@ going_heard H e l s c t own is here m inner u sent =
     begun_own : e.call_no ≡ m → is_begun H (number_of own) ≡ true
     begun_own its =
         let i = inside H l.0 in
-        let scoped_so : scope (work H e.call_no) ≡ Tx (number_of own) = ap (λ j. scope (work H j)) its ∙ inner in
+        let scoped_so : scope (work H e.call_no) ≡ Held (number_of own) = ap (λ j. scope (work H j)) its ∙ inner in
         let there = heard_there H e l.1 in
         i.coming e (number_of own) (comes H e (place H e.conn) there.sets there.line (number_not H e.call_no (number_of own) scoped_so)) scoped_so
 
@@ -392,7 +392,7 @@ going_heard H e l s c t own is here m inner u sent =
     way_of : (v : UnderWay H e) → v.owner ≡ own → e.call_no ≡ m → InsideWay H c t own m e.call
     way_of v same its =
         let tenure = heard_tenure H e t own l.1 (ap (place H) here ∙ is) in
-        let mine : scope (work H e.call_no) ≡ Tx (number_of v.owner) = ap (λ j. scope (work H j)) its ∙ (inner ∙ ap (λ o. Tx (number_of o)) (sym same)) in
+        let mine : scope (work H e.call_no) ≡ Held (number_of v.owner) = ap (λ j. scope (work H j)) its ∙ (inner ∙ ap (λ o. Held (number_of o)) (sym same)) in
         subst (λ j. InsideWay H c t own j e.call) its
         (subst (λ o. InsideWay H c t o e.call_no e.call) same
         (subst (λ x. InsideWay H c x v.owner e.call_no e.call) tenure

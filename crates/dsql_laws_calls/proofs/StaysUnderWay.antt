@@ -11,9 +11,10 @@ use Rattle.dsql_laws.specs.works.Line.{handed}
 use Rattle.dsql_laws.specs.history.Rules.Wishes.{newest_sender}
 use Rattle.dsql_laws.proofs.Tests.{same_number}
 use Rattle.dsql_laws.specs.history.declared.event.Event.{Event}
-use Rattle.dsql_laws.specs.history.declared.work.Scope.TheVariants.{Tx}
+use Rattle.dsql_laws.specs.history.declared.work.Scope.TheVariants.{Held}
 use Rattle.dsql_laws.specs.history.declared.work.Work.{Work}
-use Rattle.dsql_laws.specs.history.declared.work.Work.TheVariants.{Execute, ReadOne, HandOut, Begin, Ping, Fetch, Close, End, Look}
+use Rattle.dsql_laws.specs.history.declared.work.Task.TheVariants.{HandOut}
+use Rattle.dsql_laws.specs.history.declared.work.Work.TheVariants.{Statement, Begin, Ping, Fetch, Close, End, Look}
 use Rattle.dsql_laws.specs.history.Readers.Unfinished.{is_unfinished}
 use Rattle.dsql_laws.specs.history.Readers.Works.{work, scope, borrower, aim_of}
 use Rattle.dsql_laws.specs.history.Readers.Journals.{journal, heard_in}
@@ -48,7 +49,7 @@ entered_work H (Entered client n op) m a less = let new = enters_next H client n
 entered_work H e m a less = refl
 
 -- A call in a transaction that has sent something keeps its work.
-pub sender_work : (H : List Event) (last : Event) (m c k : ℕ) → Lawful (last ∷ H) → has_sent m (journal H c) ≡ true → scope (work (last ∷ H) m) ≡ Tx k → work (last ∷ H) m ≡ work H m
+pub sender_work : (H : List Event) (last : Event) (m c k : ℕ) → Lawful (last ∷ H) → has_sent m (journal H c) ≡ true → scope (work (last ∷ H) m) ≡ Held k → work (last ∷ H) m ≡ work H m
 sender_work H last m c k l sent is = entered_work H last m l.1 (sent_entered H c m l.0 (λ none. never (m == 0) (ap (λ j. j == 0) none) (number_not (last ∷ H) m k is)) sent)
   where
     never : (b : Bool) → b ≡ true → b ≡ false → ⊥
@@ -62,9 +63,7 @@ borrower_stays H last m same rows = by (work H m) refl
     by (Fetch j) is = let now : work (last ∷ H) m ≡ Fetch j = same ∙ is in let other = rows j (inl is) in rw (now, is, other) refl
     by (Close j) is = let now : work (last ∷ H) m ≡ Close j = same ∙ is in let other = rows j (inr is) in rw (now, is, other) refl
     by (End j) is = let now : work (last ∷ H) m ≡ End j = same ∙ is in rw (now, is) refl
-    by (Execute s) is = let now : work (last ∷ H) m ≡ Execute s = same ∙ is in rw (now, is) refl
-    by (ReadOne s dests) is = let now : work (last ∷ H) m ≡ ReadOne s dests = same ∙ is in rw (now, is) refl
-    by (HandOut s label) is = let now : work (last ∷ H) m ≡ HandOut s label = same ∙ is in rw (now, is) refl
+    by (Statement s task) is = let now : work (last ∷ H) m ≡ Statement s task = same ∙ is in rw (now, is) refl
     by (Begin label level read_only) is = let now : work (last ∷ H) m ≡ Begin label level read_only = same ∙ is in rw (now, is) refl
     by Ping is = let now : work (last ∷ H) m ≡ Ping = same ∙ is in rw (now, is) refl
     by Look is = let now : work (last ∷ H) m ≡ Look = same ∙ is in rw (now, is) refl
@@ -73,7 +72,7 @@ rows_work : (H : List Event) (last : Event) (j : ℕ) → is_some (rows_by H j) 
 rows_work H last j some = of_works.work_stays H last j (busy (work H j) (rows_hand_out H j some))
   where
     busy : (w : Work) → hands_out w ≡ true → of_works.is_look w ≡ false
-    busy (HandOut s label) h = refl
+    busy (Statement s (HandOut label)) h = refl
     busy w h = absurd cc
 
 -- The call of an entry that may come keeps its work.
@@ -108,7 +107,7 @@ stays_under_way H last e l on may u = record {
     rowed j (inl is) = let k = rows_kept H last j in k.some (u.rowed j (inl (sym (coming_work H last e may) ∙ is)))
     rowed j (inr is) = let k = rows_kept H last j in k.some (u.rowed j (inr (sym (coming_work H last e may) ∙ is)))
 
-    within : scope (work H e.call_no) ≡ Tx (number_of u.owner) → InsideWay (last ∷ H) e.conn e.tenure u.owner e.call_no e.call
+    within : scope (work H e.call_no) ≡ Held (number_of u.owner) → InsideWay (last ∷ H) e.conn e.tenure u.owner e.call_no e.call
     within s =
         let i = u.within s in
         record {
@@ -132,13 +131,13 @@ stays_under_way H last e l on may u = record {
               ∙ (line_stays H last e.conn e.tenure u.owner (number_of u.owner) x.0 l.0 l.1 u.lent (why_used H e.conn e.tenure u.owner e.call_no l.0 u.lent u.why) (unheard H last e on) busy ∙ line_of_call H e.conn e.tenure u.owner x.0 l.0 u.lent call)) ∙ x.1,
         )
 
-    turn : (m : ℕ) → m ≢ e.call_no → newest_sender (heard_in (last ∷ H) e.conn e.tenure) ≡ m → scope (work (last ∷ H) m) ≡ Tx (number_of u.owner) → is_unfinished (last ∷ H) m ≡ true → is_some (line_there (last ∷ H) e.conn e.tenure u.owner m wishes.Nothing) ≡ false
+    turn : (m : ℕ) → m ≢ e.call_no → newest_sender (heard_in (last ∷ H) e.conn e.tenure) ≡ m → scope (work (last ∷ H) m) ≡ Held (number_of u.owner) → is_unfinished (last ∷ H) m ≡ true → is_some (line_there (last ∷ H) e.conn e.tenure u.owner m wishes.Nothing) ≡ false
     turn m apart newest s unf =
         let some : m ≢ 0 = λ none. never (m == 0) (ap (λ j. j == 0) none) (number_not (last ∷ H) m (number_of u.owner) s) in
         let before : newest_sender (heard_in H e.conn e.tenure) ≡ m = sym (ap (λ J. newest_sender (of_tenure e.tenure J)) (unheard H last e on)) ∙ newest in
         let sent = newest_sent m e.tenure (journal H e.conn) before some in
         let was = sender_work H last m e.conn (number_of u.owner) l sent s in
-        let scoped_so : scope (work H m) ≡ Tx (number_of u.owner) = sym (ap scope was) ∙ s in
+        let scoped_so : scope (work H m) ≡ Held (number_of u.owner) = sym (ap scope was) ∙ s in
         let busy = inside_busy (work H m) (number_of u.owner) scoped_so in
         ap (λ o. is_some o) (line_stays H last e.conn e.tenure u.owner m wishes.Nothing l.0 l.1 u.lent (why_used H e.conn e.tenure u.owner e.call_no l.0 u.lent u.why) (unheard H last e on) busy)
         ∙ u.turn m apart before scoped_so (was_unfinished H last m l.1 busy unf)

@@ -20,9 +20,9 @@ use Rattle.dsql_laws.specs.history.Readers.HandedOut.{over, rows_by, are_over}
 use Rattle.dsql_laws.specs.history.Rules.Wishes.{newest_sender}
 use Rattle.dsql_laws.proofs.Tests.{same_number, same_itself, other_number}
 use Rattle.dsql_laws.specs.history.declared.event.Event.{Event}
-use Rattle.dsql_laws.specs.history.declared.work.Scope.TheVariants.{Tx}
+use Rattle.dsql_laws.specs.history.declared.work.Scope.TheVariants.{Held}
 use Rattle.dsql_laws.specs.history.declared.work.Work.{Work}
-use Rattle.dsql_laws.specs.history.declared.work.Work.TheVariants.{Execute, ReadOne, HandOut, Fetch, Close, Look}
+use Rattle.dsql_laws.specs.history.declared.work.Work.TheVariants.{Statement, Fetch, Close, Look}
 use Rattle.dsql_laws.specs.history.Readers.Course.{caps}
 use Rattle.dsql_laws.specs.history.Readers.Unfinished.{is_unfinished}
 use Rattle.dsql_laws.specs.history.Readers.Works.{works, work, scope, borrower, hands_out_in, aim_of}
@@ -73,7 +73,7 @@ Going H c t m = (handed_there H c t m ≡ true) ⊎ (Newest H c t m ⊎ Quiet (c
 pub record Facts (H : List Event) : Type 0 where
   -- No end was heard for a transaction that isn't over.
   pub ends : (c t : ℕ) (own : Owner) → place H c ≡ Some (Lent t own) → is_over H (number_of own) ≡ false → ended_there (heard_in H c t) ≡ false
-  pub going : (c t : ℕ) (own : Owner) → place H c ≡ Some (Lent t own) → (m : ℕ) → scope (work H m) ≡ Tx (number_of own) → is_unfinished H m ≡ true → has_sent m (journal H c) ≡ true → Going H c t m
+  pub going : (c t : ℕ) (own : Owner) → place H c ≡ Some (Lent t own) → (m : ℕ) → scope (work H m) ≡ Held (number_of own) → is_unfinished H m ≡ true → has_sent m (journal H c) ≡ true → Going H c t m
   -- What was exchanged in a call's tenure fits how far that tenure has come.
   pub made : (c t : ℕ) (own : Owner) → place H c ≡ Some (Lent t own) → is_call own ≡ true → MadeAt (caps H) (asked_by H (number_of own)) (step (heard_in H c t)) (exchanges (heard_in H c t))
 
@@ -91,9 +91,9 @@ pub record UnderWay (H : List Event) (e : Entry) : Type 0 where
   pub rowed : (j : ℕ) → (work H e.call_no ≡ Fetch j) ⊎ (work H e.call_no ≡ Close j) → is_some (rows_by H j) ≡ true
   pub why : Why H e.conn e.tenure owner e.call_no
   pub ending : is_ending e.call ≡ true → is_over H (number_of owner) ≡ true
-  pub within : scope (work H e.call_no) ≡ Tx (number_of owner) → InsideWay H e.conn e.tenure owner e.call_no e.call
+  pub within : scope (work H e.call_no) ≡ Held (number_of owner) → InsideWay H e.conn e.tenure owner e.call_no e.call
   pub line : is_call owner ≡ true → (w : Wish) × (is_due (call_line H e.conn e.tenure owner w) e.call ≡ true)
-  pub turn : (m : ℕ) → m ≢ e.call_no → newest_sender (heard_in H e.conn e.tenure) ≡ m → scope (work H m) ≡ Tx (number_of owner) → is_unfinished H m ≡ true → is_some (line_there H e.conn e.tenure owner m wishes.Nothing) ≡ false
+  pub turn : (m : ℕ) → m ≢ e.call_no → newest_sender (heard_in H e.conn e.tenure) ≡ m → scope (work H m) ≡ Held (number_of owner) → is_unfinished H m ≡ true → is_some (line_there H e.conn e.tenure owner m wishes.Nothing) ≡ false
 
 pub clash : {A : Type 0} → true ≡ false → A
 clash h = absurd cc
@@ -187,7 +187,7 @@ newest_sent m t (e ∷ J) h some = by (newest_sent m t J) (e.tenure == t) h
     by rest true k = ap (λ b. b || has_sent m J) (ap (λ j. j == m) k ∙ same_itself m)
     by rest false k = later (e.call_no == m) (rest k some)
 
-pub turn_of : (H : List Event) (e : Entry) → Lawful H → (d : DueNow H e) → (m : ℕ) → m ≢ e.call_no → newest_sender (heard_in H e.conn e.tenure) ≡ m → scope (work H m) ≡ Tx (number_of d.owner) → is_unfinished H m ≡ true
+pub turn_of : (H : List Event) (e : Entry) → Lawful H → (d : DueNow H e) → (m : ℕ) → m ≢ e.call_no → newest_sender (heard_in H e.conn e.tenure) ≡ m → scope (work H m) ≡ Held (number_of d.owner) → is_unfinished H m ≡ true
     → is_some (line_there H e.conn e.tenure d.owner m wishes.Nothing) ≡ false
 turn_of H e l d m apart newest is u = by (is_some (line_there H e.conn e.tenure d.owner m wishes.Nothing)) refl
   where
@@ -214,10 +214,8 @@ turn_of H e l d m apart newest is u = by (is_some (line_there H e.conn e.tenure 
         allowed : (k : ℕ) → is_some (line_of H m wishes.Nothing) ≡ true → is_some (cond (has_begun_to_send H m || (goes_on H k && is_none (decided H m))) (line_of H m wishes.Nothing) None) ≡ true
         allowed k x = ap (λ b. is_some (cond (b || (goes_on H k && is_none (decided H m))) (line_of H m wishes.Nothing) None)) begun_to ∙ x
 
-        within : (w : Work) → scope w ≡ Tx (number_of d.owner) → is_some (line_of H m wishes.Nothing) ≡ true → is_some (due_in H m w) ≡ true
-        within (Execute (Tx k)) s x = allowed k x
-        within (ReadOne (Tx k) dests) s x = allowed k x
-        within (HandOut (Tx k) label) s x = allowed k x
+        within : (w : Work) → scope w ≡ Held (number_of d.owner) → is_some (line_of H m wishes.Nothing) ≡ true → is_some (due_in H m w) ≡ true
+        within (Statement (Held k) task) s x = allowed k x
         within w s x = absurd cc
 
     held : is_some (due_for H m) ≡ true → holder H e.conn ≡ m

@@ -18,9 +18,10 @@ use Rattle.dsql_laws.specs.tx.declared.end.TxEnd.{TxEnd}
 use Rattle.dsql_laws.specs.works.Line.{test_of}
 use Rattle.dsql_laws.proofs.Tests.{same_number, same_itself}
 use Rattle.dsql_laws.specs.history.declared.event.Event.{Event}
-use Rattle.dsql_laws.specs.history.declared.work.Scope.TheVariants.{Tx}
+use Rattle.dsql_laws.specs.history.declared.work.Scope.TheVariants.{Db, Held}
 use Rattle.dsql_laws.specs.history.declared.work.Work.{Work}
-use Rattle.dsql_laws.specs.history.declared.work.Work.TheVariants.{HandOut, Look}
+use Rattle.dsql_laws.specs.history.declared.work.Task.TheVariants.{HandOut}
+use Rattle.dsql_laws.specs.history.declared.work.Work.TheVariants.{Statement, Look}
 use Rattle.dsql_laws.specs.history.Readers.Course.{caps}
 use Rattle.dsql_laws.specs.history.Readers.Unfinished.{is_unfinished}
 use Rattle.dsql_laws.specs.history.Readers.Works.{works, work, scope, hands_out_in}
@@ -100,8 +101,9 @@ first_some H k n (suc j) (w ∷ ws) hands some =
     or_second None p h = h
     or_second (Some q) p h = refl
 
-pub scoped : (w : Work) (n : ℕ) → hands_out_in n w ≡ true → scope w ≡ Tx n
-scoped (HandOut (Tx j) label) n h = ap Tx (same_number j n h)
+pub scoped : (w : Work) (n : ℕ) → hands_out_in n w ≡ true → scope w ≡ Held n
+scoped (Statement (Held j) (HandOut label)) n h = ap Held (same_number j n h)
+scoped (Statement Db (HandOut label)) n h = absurd cc
 scoped w n h = absurd cc
 
 pub closes_now : (H : List Event) (c t : ℕ) (own : Owner) (k : ℕ) → Lawful H → place H c ≡ Some (Lent t own) → Closes H c t own k → is_some (close_due H k) ≡ true

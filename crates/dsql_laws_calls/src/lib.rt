@@ -15,5 +15,5 @@ pub use dsql_laws::{
     Aim, Args, AskFault, Asked, CallRecord, Caps, Conn, Control, DbEnd, Dest, Dests, DriverAnswer,
     DriverCall, Entry, Event, Fate, Fleet, Items, Label, Level, MAX_EVENTS, MOST_OPEN, Memory,
     Move, Op, Owner, Permit, Place, Planned, Pool, Reply, RowsFault, RowsTable, Scope, Stand,
-    Target, TxEnd, Txs, Txt, Wire, Wish, Work,
+    Target, Task, TxEnd, Txs, Txt, Wire, Wish, Work,
 };

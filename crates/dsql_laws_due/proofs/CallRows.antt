@@ -21,7 +21,8 @@ use Rattle.dsql_laws_calls.proofs.laws.Places.{neither}
 use Rattle.dsql_laws_calls.specs.history.declared.event.Event.{Event}
 use Rattle.dsql_laws_calls.specs.history.declared.event.Event.TheVariants.{Heard, Pool}
 use Rattle.dsql_laws_calls.specs.history.declared.work.Work.{Work}
-use Rattle.dsql_laws_calls.specs.history.declared.work.Work.TheVariants.{HandOut}
+use Rattle.dsql_laws_calls.specs.history.declared.work.Task.TheVariants.{HandOut}
+use Rattle.dsql_laws_calls.specs.history.declared.work.Work.TheVariants.{Statement}
 use Rattle.dsql_laws_calls.specs.history.Readers.Journals.{heard_in, journal}
 use Rattle.dsql_laws_calls.specs.history.Readers.Pool.{place}
 use Rattle.dsql_laws_calls.specs.history.Readers.Transactions.{goes_on, is_begun}
@@ -150,7 +151,7 @@ finished H c t own l is call unused =
     unhanded rows (Some r) its = absurd (query (work H (number_of own)) refl (ap (λ o. is_some o) its))
       where
         query : (w : Work) → work H (number_of own) ≡ w → is_some (handed (aim_of w) (exchanges (heard_in H c t))) ≡ true → ⊥
-        query (HandOut s label) its_work x =
+        query (Statement s (HandOut label)) its_work x =
             let some = call_rows H c t own l is call (ap hands_out its_work) x in
             let wrong : true ≡ false = sym some ∙ ap (λ o. is_some o) rows in
             cc

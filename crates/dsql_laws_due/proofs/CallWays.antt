@@ -13,9 +13,10 @@ use Rattle.dsql_laws_calls.specs.history.Rules.Wishes.{wish_as}
 use Rattle.dsql_laws_calls.proofs.laws.Tests.{both, same_itself}
 use Rattle.dsql_laws_calls.proofs.laws_work.Rows.{not_true}
 use Rattle.dsql_laws_calls.specs.history.declared.event.Event.{Event}
-use Rattle.dsql_laws_calls.specs.history.declared.work.Scope.TheVariants.{Db, Tx}
+use Rattle.dsql_laws_calls.specs.history.declared.work.Scope.TheVariants.{Db, Held}
 use Rattle.dsql_laws_calls.specs.history.declared.work.Work.{Work}
-use Rattle.dsql_laws_calls.specs.history.declared.work.Work.TheVariants.{Execute, ReadOne, HandOut, Begin, End, Ping, Fetch, Close, Look}
+use Rattle.dsql_laws_calls.specs.history.declared.work.Task.TheVariants.{Execute, ReadOne, HandOut}
+use Rattle.dsql_laws_calls.specs.history.declared.work.Work.TheVariants.{Statement, Begin, End, Ping, Fetch, Close, Look}
 use Rattle.dsql_laws_calls.specs.history.Readers.Calls.{decided, site}
 use Rattle.dsql_laws_calls.specs.history.Readers.HandedOut.{are_live, are_over, ender, rows_by}
 use Rattle.dsql_laws_calls.specs.history.Readers.Pool.{home, place}
@@ -95,8 +96,8 @@ module _ (H : List Event) (e : Entry) (own : Owner) (l : Lawful H) (lent : place
       itself number = of_work (work H j) refl (rows_hand_out H j rows)
         where
           of_work : (v : Work) → work H j ≡ v → hands_out v ≡ true → j ≡ number_of own
-          of_work (HandOut Db label) its x = sym (number ∙ rw its refl)
-          of_work (HandOut (Tx k) label) its x =
+          of_work (Statement Db (HandOut label)) its x = sym (number ∙ rw its refl)
+          of_work (Statement (Held k) (HandOut label)) its x =
               let at : number_of own ≡ k = number ∙ rw its refl in
               call_unbegun H e.conn e.tenure own l lent call (ap (is_begun H) at ∙ rows_begun H j k l rows (ap (hands_out_in k) its ∙ same_itself k))
           of_work v its x = absurd cc
@@ -132,12 +133,12 @@ module _ (H : List Event) (e : Entry) (own : Owner) (l : Lawful H) (lent : place
               ends_none k (at_number H k e.conn e.tenure own (some_due (ending H k) e.call y) at lent) y
           by_ender false y = absurd cc
       work_of d some Look is_work a s x = absurd cc
-      work_of d some (Execute Db) is_work a s x = absurd cc
-      work_of d some (Execute (Tx k)) is_work a s x = absurd cc
-      work_of d some (ReadOne Db dests) is_work a s x = absurd cc
-      work_of d some (ReadOne (Tx k) dests) is_work a s x = absurd cc
-      work_of d some (HandOut Db label) is_work a s x = absurd cc
-      work_of d some (HandOut (Tx k) label) is_work a s x = absurd cc
+      work_of d some (Statement Db Execute) is_work a s x = absurd cc
+      work_of d some (Statement (Held k) Execute) is_work a s x = absurd cc
+      work_of d some (Statement Db (ReadOne dests)) is_work a s x = absurd cc
+      work_of d some (Statement (Held k) (ReadOne dests)) is_work a s x = absurd cc
+      work_of d some (Statement Db (HandOut label)) is_work a s x = absurd cc
+      work_of d some (Statement (Held k) (HandOut label)) is_work a s x = absurd cc
       work_of d some (Begin label level read_only) is_work a s x = absurd cc
       work_of d some Ping is_work a s x = absurd cc
 

@@ -11,7 +11,7 @@ use Rattle.dsql_laws_calls.specs.pool.declared.conn.Place.TheVariants.{Lent}
 use Rattle.dsql_laws_calls.proofs.laws.Tests.{same_number}
 use Rattle.dsql_laws_calls.specs.history.declared.event.Event.{Event}
 use Rattle.dsql_laws_calls.specs.history.declared.work.Scope.{Scope}
-use Rattle.dsql_laws_calls.specs.history.declared.work.Scope.TheVariants.{Db, Tx}
+use Rattle.dsql_laws_calls.specs.history.declared.work.Scope.TheVariants.{Db, Held}
 use Rattle.dsql_laws_calls.specs.history.Readers.Course.{caps}
 use Rattle.dsql_laws_calls.specs.history.Readers.Unfinished.{is_unfinished}
 use Rattle.dsql_laws_calls.specs.history.Readers.Works.{work, scope, asks}
@@ -43,7 +43,7 @@ pub record BeginsWay (H : List Event) (c t : ℕ) (own : Owner) (m : ℕ) (q : D
 -- Holds if the driver call is of a call in the transaction.
 pub record InnerWay (H : List Event) (c t : ℕ) (own : Owner) (m : ℕ) (q : DriverCall) : Type 0 where
   pub begun : is_begun H (number_of own) ≡ true
-  pub inner : scope (work H m) ≡ Tx (number_of own)
+  pub inner : scope (work H m) ≡ Held (number_of own)
   pub unfinished : is_unfinished H m ≡ true
   pub way : InsideWay H c t own m q
 
@@ -85,18 +85,18 @@ came H e own l s h may is other = by (e.call_no == 0) refl
     another : asks (work H e.call_no) ≡ false → scope (work H e.call_no) ≡ Db → Came H e.conn e.tenure own e.call_no e.call
     another a s_is = let its : IsOther H e.call_no = record { asks_none = a; outside = s_is } in inr (inr (record { other = its; way = h.coming e own may is other its }))
 
-    within : (u : UnderWay H e) → (e.call_no == 0) ≡ false → (k : ℕ) → scope (work H e.call_no) ≡ Tx k → Came H e.conn e.tenure own e.call_no e.call
+    within : (u : UnderWay H e) → (e.call_no == 0) ≡ false → (k : ℕ) → scope (work H e.call_no) ≡ Held k → Came H e.conn e.tenure own e.call_no e.call
     within u some k inner =
         let same = same_lent e.tenure e.tenure u.owner own (sym u.lent ∙ is) in
         let numbered : e.call_no ≢ 0 = λ none. never (e.call_no == 0) (ap (λ j. j == 0) none) some in
         let number : k ≡ number_of u.owner = sym (inside_uses H e.call_no k inner) ∙ u.borrowed numbered in
-        let mine : scope (work H e.call_no) ≡ Tx (number_of u.owner) = inner ∙ ap Tx number in
+        let mine : scope (work H e.call_no) ≡ Held (number_of u.owner) = inner ∙ ap Held number in
         let i = inside H l in
         let begun : is_begun H (number_of u.owner) ≡ true = i.coming e (number_of u.owner) may mine in
         inr
         (inl (record {
           begun = subst (λ o. is_begun H (number_of o) ≡ true) same begun;
-          inner = subst (λ o. scope (work H e.call_no) ≡ Tx (number_of o)) same mine;
+          inner = subst (λ o. scope (work H e.call_no) ≡ Held (number_of o)) same mine;
           unfinished = u.unfinished numbered;
           way = subst (λ o. InsideWay H e.conn e.tenure o e.call_no e.call) same (u.within mine);
         }))
@@ -106,7 +106,7 @@ came H e own l s h may is other = by (e.call_no == 0) refl
 
     scoped : (sc : Scope) → scope (work H e.call_no) ≡ sc → (e.call_no == 0) ≡ false → asks (work H e.call_no) ≡ false → Came H e.conn e.tenure own e.call_no e.call
     scoped Db its some a = another a its
-    scoped (Tx k) its some a = within (s.coming e may) some k its
+    scoped (Held k) its some a = within (s.coming e may) some k its
 
     asking : (b : Bool) → asks (work H e.call_no) ≡ b → (e.call_no == 0) ≡ false → Came H e.conn e.tenure own e.call_no e.call
     asking true a some = inl (begins_way H e own l is other (own_way H e l may some a))

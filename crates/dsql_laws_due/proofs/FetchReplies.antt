@@ -16,9 +16,10 @@ use Rattle.dsql_laws_calls.proofs.laws.Tests.{other_number, same_itself}
 use Rattle.dsql_laws_calls.specs.history.declared.event.Event.{Event}
 use Rattle.dsql_laws_calls.specs.history.declared.reply.Reply.{Reply}
 use Rattle.dsql_laws_calls.specs.history.declared.reply.Reply.TheVariants.{Truth}
-use Rattle.dsql_laws_calls.specs.history.declared.work.Scope.TheVariants.{Db, Tx}
+use Rattle.dsql_laws_calls.specs.history.declared.work.Scope.TheVariants.{Db, Held}
 use Rattle.dsql_laws_calls.specs.history.declared.work.Work.{Work}
-use Rattle.dsql_laws_calls.specs.history.declared.work.Work.TheVariants.{Fetch, HandOut}
+use Rattle.dsql_laws_calls.specs.history.declared.work.Task.TheVariants.{HandOut}
+use Rattle.dsql_laws_calls.specs.history.declared.work.Work.TheVariants.{Statement, Fetch}
 use Rattle.dsql_laws_calls.specs.history.Readers.Calls.{decided, has_begun_to_send, reply_due, site, told_at_lending, told_of_work}
 use Rattle.dsql_laws_calls.specs.history.Readers.Course.{caps}
 use Rattle.dsql_laws_calls.specs.history.Readers.Journals.{heard_in, journal}
@@ -58,7 +59,7 @@ some_cursor None h = absurd cc
 some_cursor (Some r) h = (r, refl)
 
 pub handed_from : (w : Work) (xs : List Exchange) → hands_out w ≡ true → is_some (own_cursor xs) ≡ true → is_some (handed (aim_of w) xs) ≡ true
-handed_from (HandOut s label) xs x y = y
+handed_from (Statement s (HandOut label)) xs x y = y
 handed_from w xs x y = absurd cc
 
 module _ (H : List Event) (k c t : ℕ) (own : Owner) (l : Lawful H) (is : place H c ≡ Some (Lent t own)) (borrowed : number_of own ≡ borrower H k) (some : is_some (rows_by H k) ≡ true) (lives : are_live H k ≡ true) where
@@ -69,8 +70,8 @@ module _ (H : List Event) (k c t : ℕ) (own : Owner) (l : Lawful H) (is : place
       itself = by (work H k) refl (rows_hand_out H k some)
         where
           by : (w : Work) → work H k ≡ w → hands_out w ≡ true → number_of own ≡ k
-          by (HandOut Db label) its x = borrowed ∙ rw its refl
-          by (HandOut (Tx j) label) its x =
+          by (Statement Db (HandOut label)) its x = borrowed ∙ rw its refl
+          by (Statement (Held j) (HandOut label)) its x =
               let at : number_of own ≡ j = borrowed ∙ rw its refl in
               call_unbegun H c t own l is call (ap (is_begun H) at ∙ rows_begun H k j l some (ap (hands_out_in j) its ∙ same_itself j))
           by w its x = absurd cc
@@ -91,7 +92,7 @@ module _ (H : List Event) (k c t : ℕ) (own : Owner) (l : Lawful H) (is : place
       kept : Kept H
       kept = let h = holds H l in h.kept
 
-      from : hands_out_in (number_of own) (work H k) ≡ true → (j : ℕ) → scope (work H k) ≡ Tx j → is_some (line_there H c t own k wishes.Fetch) ≡ true
+      from : hands_out_in (number_of own) (work H k) ≡ true → (j : ℕ) → scope (work H k) ≡ Held j → is_some (line_there H c t own k wishes.Fetch) ≡ true
       from hands j scoped =
           let r = some_cursor (handed (aim_of (work H k)) (made_by k t (journal H c))) (kept.handed c t own is k hands some) in
           ap (λ d. is_some d)
@@ -99,11 +100,11 @@ module _ (H : List Event) (k c t : ℕ) (own : Owner) (l : Lawful H) (is : place
           ∙ open_inner (untested (caps H)) (went_bad (journal H c)) (asked_by H k) wishes.Fetch (made_by k t (journal H c)) r.0 r.1 (live_open H c t own l is other k hands lives))
 
       by : (w : Work) → work H k ≡ w → hands_out w ≡ true → is_some (line_there H c t own k wishes.Fetch) ≡ true
-      by (HandOut Db label) its x =
+      by (Statement Db (HandOut label)) its x =
           let itself : number_of own ≡ k = borrowed ∙ rw its refl in
           let wrong : true ≡ false = sym (owner_begins H c t own l is other) ∙ (ap (λ j. begins (work H j)) itself ∙ ap begins its) in
           absurd cc
-      by (HandOut (Tx j) label) its x =
+      by (Statement (Held j) (HandOut label)) its x =
           let at : number_of own ≡ j = borrowed ∙ rw its refl in
           from (ap (λ i. hands_out_in i (work H k)) at ∙ (ap (hands_out_in j) its ∙ same_itself j)) j (ap scope its)
       by w its x = absurd cc

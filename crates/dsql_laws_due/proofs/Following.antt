@@ -29,7 +29,7 @@ use Rattle.dsql_laws_calls.proofs.laws_work.CallLines.{sent_entry}
 use Rattle.dsql_laws_calls.proofs.laws_work.Lines.{sent_entry_of}
 use Rattle.dsql_laws_calls.proofs.laws.Places.{neither}
 use Rattle.dsql_laws_calls.specs.history.declared.event.Event.{Event}
-use Rattle.dsql_laws_calls.specs.history.declared.work.Scope.TheVariants.{Tx as In}
+use Rattle.dsql_laws_calls.specs.history.declared.work.Scope.TheVariants.{Held as In}
 use Rattle.dsql_laws_calls.specs.history.declared.work.Work.{Work}
 use Rattle.dsql_laws_calls.specs.history.declared.work.Work.TheVariants.{Begin}
 use Rattle.dsql_laws_calls.specs.history.Readers.Course.{caps}

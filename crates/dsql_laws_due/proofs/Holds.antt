@@ -14,7 +14,7 @@ use Rattle.dsql_laws_calls.specs.journal.Readers.{went_bad}
 use Rattle.dsql_laws_calls.specs.pool.declared.conn.Place.TheVariants.{Lent}
 use Rattle.dsql_laws_calls.specs.works.Line.{Asked}
 use Rattle.dsql_laws_calls.specs.history.declared.event.Event.{Event}
-use Rattle.dsql_laws_calls.specs.history.declared.work.Scope.TheVariants.{Db, Tx}
+use Rattle.dsql_laws_calls.specs.history.declared.work.Scope.TheVariants.{Db, Held}
 use Rattle.dsql_laws_calls.specs.history.declared.work.Work.{Work}
 use Rattle.dsql_laws_calls.specs.history.declared.work.Work.TheVariants.{Begin, Fetch}
 use Rattle.dsql_laws_calls.specs.history.Readers.Course.{caps}
@@ -59,7 +59,7 @@ pub record Kept (H : List Event) : Type 0 where
   -- The driver calls in the lines were each due when they were sent.
   pub lines : (c t : ℕ) (own : Owner) → place H c ≡ Some (Lent t own) → is_call own ≡ false → KeepsLines (caps H) (asked_in H (number_of own)) t (journal H c)
   -- A call that has its reply handed rows out, or has nothing more to send for good.
-  pub rested : (c t : ℕ) (own : Owner) → place H c ≡ Some (Lent t own) → (m : ℕ) → scope (work H m) ≡ Tx (number_of own) → is_unfinished H m ≡ false → has_sent m (journal H c) ≡ true
+  pub rested : (c t : ℕ) (own : Owner) → place H c ≡ Some (Lent t own) → (m : ℕ) → scope (work H m) ≡ Held (number_of own) → is_unfinished H m ≡ false → has_sent m (journal H c) ≡ true
       → (handed_there H c t m ≡ true) ⊎ Quiet (caps H) (went_bad (journal H c)) (asked_by H m) (line_made H c t m)
   -- Rows that were made have their cursor in the line of their query.
   pub handed : (c t : ℕ) (own : Owner) → place H c ≡ Some (Lent t own) → (n : ℕ) → hands_out_in (number_of own) (work H n) ≡ true → is_some (rows_by H n) ≡ true → handed_there H c t n ≡ true

@@ -13,7 +13,7 @@ use Rattle.dsql_laws_calls.proofs.laws_work.Rows.{not_true, same_or_not}
 use Rattle.dsql_laws_calls.proofs.laws.Tests.{both}
 use Rattle.dsql_laws_calls.specs.history.declared.event.Event.{Event}
 use Rattle.dsql_laws_calls.specs.history.declared.event.Event.TheVariants.{Heard}
-use Rattle.dsql_laws_calls.specs.history.declared.work.Scope.TheVariants.{Tx}
+use Rattle.dsql_laws_calls.specs.history.declared.work.Scope.TheVariants.{Held}
 use Rattle.dsql_laws_calls.specs.history.declared.work.Work.{Work}
 use Rattle.dsql_laws_calls.specs.history.declared.work.Work.TheVariants.{Fetch, Look}
 use Rattle.dsql_laws_calls.specs.history.Readers.Course.{caps}
@@ -54,7 +54,7 @@ use Rattle.dsql_laws_due.proofs.Ways.{due_tx_way}
 
 -- An answer on another connection isn't to a call in the transaction.
 
-inner_here : (H : List Event) (e : Entry) (c t : ℕ) (own : Owner) → Lawful (Heard e ∷ H) → place H c ≡ Some (Lent t own) → scope (work H e.call_no) ≡ Tx (number_of own) → e.conn ≡ c
+inner_here : (H : List Event) (e : Entry) (c t : ℕ) (own : Owner) → Lawful (Heard e ∷ H) → place H c ≡ Some (Lent t own) → scope (work H e.call_no) ≡ Held (number_of own) → e.conn ≡ c
 inner_here H e c t own l is inner =
     let some = number_not H e.call_no (number_of own) inner in
     let there = heard_there H e l.1 in

@@ -27,9 +27,10 @@ use Rattle.dsql_laws_calls.proofs.laws.Tests.{same_itself, same_number, together
 use Rattle.dsql_laws_calls.proofs.laws_work.Rows.{not_true}
 use Rattle.dsql_laws_calls.specs.history.declared.event.Event.{Event}
 use Rattle.dsql_laws_calls.specs.history.declared.event.Event.TheVariants.{Heard}
-use Rattle.dsql_laws_calls.specs.history.declared.work.Scope.TheVariants.{Tx}
+use Rattle.dsql_laws_calls.specs.history.declared.work.Scope.TheVariants.{Held}
 use Rattle.dsql_laws_calls.specs.history.declared.work.Work.{Work}
-use Rattle.dsql_laws_calls.specs.history.declared.work.Work.TheVariants.{Begin, HandOut}
+use Rattle.dsql_laws_calls.specs.history.declared.work.Task.TheVariants.{HandOut}
+use Rattle.dsql_laws_calls.specs.history.declared.work.Work.TheVariants.{Statement, Begin}
 use Rattle.dsql_laws_calls.specs.history.Readers.Course.{caps}
 use Rattle.dsql_laws_calls.specs.history.Readers.HandedOut.{handed_out, rows_by, rows_heard}
 use Rattle.dsql_laws_calls.specs.history.Readers.Journals.{journal, heard_in}
@@ -103,11 +104,11 @@ ending_not_valid q h k = cc
 -- Rows that are there after an answer were there before it, or the answer gave their call a cursor.
 pub new_rows : (H : List Event) (it : Work) (m : ℕ) (q : DriverCall) (a : DriverAnswer) (n : ℕ) (R : Made) → is_some (rows_of n (rows_heard H it m q a R)) ≡ true
     → (is_some (rows_of n R) ≡ true) ⊎ ((n ≡ m) × (is_some (given_cursor (got_of a)) ≡ true) × (is_some (step_of q) ≡ true))
-new_rows H (HandOut s label) m (calls.Query (Text text) params) (answers.Cursor cursor columns) n R h =
-    elim (some_heard H (HandOut s label) m (calls.Query (Text text) params) (answers.Cursor cursor columns) n R h) [ inl were ↦ inl were | inr new ↦ inr (new.0, refl, refl) ]
-new_rows H (HandOut s label) m (calls.Query (Handle handle) params) (answers.Cursor cursor columns) n R h =
-    elim (some_heard H (HandOut s label) m (calls.Query (Handle handle) params) (answers.Cursor cursor columns) n R h) [ inl were ↦ inl were | inr new ↦ inr (new.0, refl, refl) ]
-new_rows H (HandOut s label) m q a n R h = inl h
+new_rows H (Statement s (HandOut label)) m (calls.Query (Text text) params) (answers.Cursor cursor columns) n R h =
+    elim (some_heard H (Statement s (HandOut label)) m (calls.Query (Text text) params) (answers.Cursor cursor columns) n R h) [ inl were ↦ inl were | inr new ↦ inr (new.0, refl, refl) ]
+new_rows H (Statement s (HandOut label)) m (calls.Query (Handle handle) params) (answers.Cursor cursor columns) n R h =
+    elim (some_heard H (Statement s (HandOut label)) m (calls.Query (Handle handle) params) (answers.Cursor cursor columns) n R h) [ inl were ↦ inl were | inr new ↦ inr (new.0, refl, refl) ]
+new_rows H (Statement s (HandOut label)) m q a n R h = inl h
 new_rows H it m q a n R h = plain (some_heard H it m q a n R h)
   where
     plain : (is_some (rows_of n R) ≡ true) ⊎ ((n ≡ m) × (hands_out it ≡ true)) → (is_some (rows_of n R) ≡ true) ⊎ ((n ≡ m) × (is_some (given_cursor (got_of a)) ≡ true) × (is_some (step_of q) ≡ true))
@@ -166,7 +167,7 @@ module _ (H : List Event) (e : Entry) (l : Lawful (Heard e ∷ H)) (s : Sound H)
 
   -- The lines of calls.
 
-  asked_now : (n : ℕ) → scope (work H n) ≡ Tx (number_of own) → asked_in (Heard e ∷ H) (number_of own) n ≡ Some (asked_by H n)
+  asked_now : (n : ℕ) → scope (work H n) ≡ Held (number_of own) → asked_in (Heard e ∷ H) (number_of own) n ≡ Some (asked_by H n)
   asked_now n inner =
       ap (λ sc. cond (is_in (number_of own) sc) (Some (asked_by (Heard e ∷ H) n)) None) inner ∙ (ap (λ b. cond b (Some (asked_by (Heard e ∷ H) n)) None) (same_itself (number_of own))
       ∙ ap Some (asked_stays H (Heard e) n (inside_busy (work H n) (number_of own) inner)))
@@ -225,7 +226,7 @@ module _ (H : List Event) (e : Entry) (l : Lawful (Heard e ∷ H)) (s : Sound H)
       new (Some d) xs k g = or_given (given_cursor (got_of e.answer)) (own_cursor xs) g
 
       hands_out_of : (w : Work) (xs : List Exchange) → hands_out_in (number_of own) w ≡ true → is_some (own_cursor xs) ≡ true → is_some (handed (aim_of w) xs) ≡ true
-      hands_out_of (HandOut sc label) xs x y = y
+      hands_out_of (Statement sc (HandOut label)) xs x y = y
       hands_out_of w xs x y = absurd cc
 
       by : (is_some (rows_by H n) ≡ true) ⊎ ((n ≡ e.call_no) × (is_some (given_cursor (got_of e.answer)) ≡ true) × (is_some (step_of e.call) ≡ true))
@@ -238,7 +239,7 @@ module _ (H : List Event) (e : Entry) (l : Lawful (Heard e ∷ H)) (s : Sound H)
 
   -- A call that has its reply.
 
-  pub rested_heard : (m : ℕ) → scope (work H m) ≡ Tx (number_of own) → is_unfinished H m ≡ false → has_sent m (journal (Heard e ∷ H) e.conn) ≡ true
+  pub rested_heard : (m : ℕ) → scope (work H m) ≡ Held (number_of own) → is_unfinished H m ≡ false → has_sent m (journal (Heard e ∷ H) e.conn) ≡ true
       → (handed_there (Heard e ∷ H) e.conn e.tenure m ≡ true) ⊎ Quiet (caps H) (went_bad (journal (Heard e ∷ H) e.conn)) (asked_by (Heard e ∷ H) m) (line_made (Heard e ∷ H) e.conn e.tenure m)
   rested_heard m inner done sent = by (e.call_no == m) refl (sym (ap (has_sent m) journal_now) ∙ sent)
     where

@@ -7,7 +7,7 @@ use Rattle.dsql_laws_calls.specs.journal.Readers.{of_tenure}
 use Rattle.dsql_laws_calls.specs.pool.declared.moves.Move.TheVariants.{Lend}
 use Rattle.dsql_laws_calls.specs.history.declared.event.Event.{Event}
 use Rattle.dsql_laws_calls.specs.history.declared.event.Event.TheVariants.{Pool}
-use Rattle.dsql_laws_calls.specs.history.declared.work.Scope.TheVariants.{Tx}
+use Rattle.dsql_laws_calls.specs.history.declared.work.Scope.TheVariants.{Held}
 use Rattle.dsql_laws_calls.specs.history.Readers.Course.{caps}
 use Rattle.dsql_laws_calls.specs.history.Readers.Journals.{journal, heard_in}
 use Rattle.dsql_laws_calls.specs.history.Readers.Lines.{has_sent}
@@ -73,7 +73,7 @@ kept_quiet H e l none f kept = record {
     lent_new : (c t : ℕ) (own : Owner) (k : ℕ) → e ≡ Pool (Lend c t own k) → is_begun H (number_of own) ≡ true → ⊥
     lent_new c t own k its begun = lent_once_begun H c t own k l.0 (subst (λ x. Allowed H x) its l.1) (beginnings H l.0) begun
 
-    sent_before : (c t : ℕ) (own : Owner) (k : ℕ) → e ≡ Pool (Lend c t own k) → (m : ℕ) → scope (work (e ∷ H) m) ≡ Tx (number_of own) → has_sent m (journal (e ∷ H) c) ≡ true → ⊥
+    sent_before : (c t : ℕ) (own : Owner) (k : ℕ) → e ≡ Pool (Lend c t own k) → (m : ℕ) → scope (work (e ∷ H) m) ≡ Held (number_of own) → has_sent m (journal (e ∷ H) c) ≡ true → ⊥
     sent_before c t own k its m inner sent =
         let before : has_sent m (journal H c) ≡ true = sym (ap (has_sent m) (heard_same H e c none)) ∙ sent in
         let same = sender_work H e m c (number_of own) l before inner in

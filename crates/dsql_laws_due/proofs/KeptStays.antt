@@ -19,9 +19,10 @@ use Rattle.dsql_laws_calls.specs.history.declared.event.Event.{Event}
 use Rattle.dsql_laws_calls.specs.history.declared.event.Event.TheVariants.{Run, Entered, Heard, Pool, Waits, Ticked, SetLimit, Replied, Ended}
 use Rattle.dsql_laws_calls.specs.history.declared.reply.Reply.{Reply}
 use Rattle.dsql_laws_calls.specs.history.declared.work.Scope.{Scope}
-use Rattle.dsql_laws_calls.specs.history.declared.work.Scope.TheVariants.{Db, Tx}
+use Rattle.dsql_laws_calls.specs.history.declared.work.Scope.TheVariants.{Db, Held}
 use Rattle.dsql_laws_calls.specs.history.declared.work.Work.{Work}
-use Rattle.dsql_laws_calls.specs.history.declared.work.Work.TheVariants.{Execute, ReadOne, HandOut, Look}
+use Rattle.dsql_laws_calls.specs.history.declared.work.Task.TheVariants.{Execute, ReadOne, HandOut}
+use Rattle.dsql_laws_calls.specs.history.declared.work.Work.TheVariants.{Statement, Look}
 use Rattle.dsql_laws_calls.specs.history.Readers.Course.{caps}
 use Rattle.dsql_laws_calls.specs.history.Readers.Unfinished.{is_unfinished}
 use Rattle.dsql_laws_calls.specs.history.Readers.Works.{work, scope, is_in, hands_out_in, borrower, aim_of}
@@ -60,13 +61,13 @@ use Rattle.dsql_laws_due.proofs.Ways.{owner_begins}
 -- What calls in the transaction ask after the event.
 
 text_in : (w : Work) (k : ℕ) → is_in k (scope w) ≡ true → asks_text (aim_of w) ≡ true
-text_in (Execute s) k h = refl
-text_in (ReadOne s dests) k h = refl
-text_in (HandOut s label) k h = refl
+text_in (Statement s Execute) k h = refl
+text_in (Statement s (ReadOne dests)) k h = refl
+text_in (Statement s (HandOut label)) k h = refl
 text_in w k h = absurd cc
 
-in_scope : (s : Scope) (k : ℕ) → is_in k s ≡ true → s ≡ Tx k
-in_scope (Tx n) k h = ap Tx (same_number n k h)
+in_scope : (s : Scope) (k : ℕ) → is_in k s ≡ true → s ≡ Held k
+in_scope (Held n) k h = ap Held (same_number n k h)
 in_scope Db k h = absurd cc
 
 asked_some : (H : List Event) (k n : ℕ) (it : Asked) → asked_in H k n ≡ Some it → (is_in k (scope (work H n)) ≡ true) × (it ≡ asked_by H n)
@@ -173,7 +174,7 @@ module _ (H : List Event) (e : Event) (l : Lawful (e ∷ H)) (f : Facts H) (kept
       quiet_as ca cb x y J M a b d q = rw (a, b, d) q
 
   -- When a call replies, nothing is due for it.
-  replied_rested : (m : ℕ) (reply : Reply) → e ≡ Replied m reply → scope (work H m) ≡ Tx (number_of own) → is_unfinished H m ≡ true → has_sent m (journal H c) ≡ true
+  replied_rested : (m : ℕ) (reply : Reply) → e ≡ Replied m reply → scope (work H m) ≡ Held (number_of own) → is_unfinished H m ≡ true → has_sent m (journal H c) ≡ true
       → (handed_there H c t m ≡ true) ⊎ Quiet (caps H) (went_bad (journal H c)) (asked_by H m) (line_made H c t m)
   replied_rested m reply now inner u sent = from (f.going c t own is m inner u sent)
     where
@@ -202,10 +203,8 @@ module _ (H : List Event) (e : Event) (l : Lawful (e ∷ H)) (f : Facts H) (kept
           allowed : (k : ℕ) → is_some (cond (has_begun_to_send H m || (goes_on H k && is_none (decided H m))) (line_of H m wishes.Nothing) None) ≡ false → is_some (line_of H m wishes.Nothing) ≡ false
           allowed k x = sym (ap (λ b. is_some (cond (b || (goes_on H k && is_none (decided H m))) (line_of H m wishes.Nothing) None)) begun_to) ∙ x
 
-          within : (w : Work) → scope w ≡ Tx (number_of own) → is_some (due_in H m w) ≡ false → is_some (line_of H m wishes.Nothing) ≡ false
-          within (Execute (Tx k)) s x = allowed k x
-          within (ReadOne (Tx k) dests) s x = allowed k x
-          within (HandOut (Tx k) label) s x = allowed k x
+          within : (w : Work) → scope w ≡ Held (number_of own) → is_some (due_in H m w) ≡ false → is_some (line_of H m wishes.Nothing) ≡ false
+          within (Statement (Held k) task) s x = allowed k x
           within w s x = absurd cc
 
       none : is_some (inner_after (caps H) (went_bad (journal H c)) (asked_by H m) wishes.Nothing (line_among m (heard_in H c t))) ≡ false
@@ -251,7 +250,7 @@ module _ (H : List Event) (e : Event) (l : Lawful (e ∷ H)) (f : Facts H) (kept
       by (SetLimit s k) its = not_now (SetLimit s k) its (λ reply now. absurd cc)
       by Ended its = not_now Ended its (λ reply now. absurd cc)
 
-  pub rested_same : (m : ℕ) → scope (work (e ∷ H) m) ≡ Tx (number_of own) → is_unfinished (e ∷ H) m ≡ false → has_sent m (journal (e ∷ H) c) ≡ true
+  pub rested_same : (m : ℕ) → scope (work (e ∷ H) m) ≡ Held (number_of own) → is_unfinished (e ∷ H) m ≡ false → has_sent m (journal (e ∷ H) c) ≡ true
       → (handed_there (e ∷ H) c t m ≡ true) ⊎ Quiet (caps (e ∷ H)) (went_bad (journal (e ∷ H) c)) (asked_by (e ∷ H) m) (line_made (e ∷ H) c t m)
   rested_same m inner done sent = rested_as m it (inside_busy (work H m) (number_of own) was) (by (is_unfinished H m) refl)
     where
@@ -261,7 +260,7 @@ module _ (H : List Event) (e : Event) (l : Lawful (e ∷ H)) (f : Facts H) (kept
       it : work (e ∷ H) m ≡ work H m
       it = sender_work H e m c (number_of own) l before inner
 
-      was : scope (work H m) ≡ Tx (number_of own)
+      was : scope (work H m) ≡ Held (number_of own)
       was = sym (ap scope it) ∙ inner
 
       by : (b : Bool) → is_unfinished H m ≡ b → (handed_there H c t m ≡ true) ⊎ Quiet (caps H) (went_bad (journal H c)) (asked_by H m) (line_made H c t m)

@@ -20,7 +20,7 @@ use Rattle.dsql_laws_calls.specs.works.declared.work.Aim.{Aim}
 use Rattle.dsql_laws_calls.specs.works.declared.work.Aim.TheVariants as aims
 use Rattle.dsql_laws_calls.proofs.laws.Tests.{same_itself}
 use Rattle.dsql_laws_calls.specs.history.declared.event.Event.{Event}
-use Rattle.dsql_laws_calls.specs.history.declared.work.Scope.TheVariants.{Tx}
+use Rattle.dsql_laws_calls.specs.history.declared.work.Scope.TheVariants.{Held}
 use Rattle.dsql_laws_calls.specs.history.Readers.Course.{caps}
 use Rattle.dsql_laws_calls.specs.history.Readers.Journals.{journal}
 use Rattle.dsql_laws_calls.specs.history.Readers.Lines.{is_about, line_among}
@@ -48,7 +48,7 @@ pub record LineOf (H : List Event) (c t n : ℕ) (own : Owner) : Type 0 where
   pub sent : WasSent (caps H) (asked_by H n) (made_by n t (journal H c))
   pub order : is_in_order (made_by n t (journal H c)) ≡ true
 
-pub line_facts : (H : List Event) (c t n : ℕ) (own : Owner) → Kept H → place H c ≡ Some (Lent t own) → is_call own ≡ false → scope (work H n) ≡ Tx (number_of own) → LineOf H c t n own
+pub line_facts : (H : List Event) (c t n : ℕ) (own : Owner) → Kept H → place H c ≡ Some (Lent t own) → is_call own ≡ false → scope (work H n) ≡ Held (number_of own) → LineOf H c t n own
 line_facts H c t n own kept is other inner =
     let keeps = kept.lines c t own is other in
     let asked : asked_in H (number_of own) n ≡ Some (asked_by H n) =
@@ -59,7 +59,7 @@ line_facts H c t n own kept is other inner =
     record { asked = asked; text = text; sent = sent; order = sent_in_order (caps H) (asked_by H n) (made_by n t (journal H c)) text sent }
 
 -- What is due in the line is due after its exchanges.
-pub body_due : (H : List Event) (c t n : ℕ) (own : Owner) (w : Wish) (q : DriverCall) → is_call own ≡ false → scope (work H n) ≡ Tx (number_of own) → is_due (line_there H c t own n w) q ≡ true
+pub body_due : (H : List Event) (c t n : ℕ) (own : Owner) (w : Wish) (q : DriverCall) → is_call own ≡ false → scope (work H n) ≡ Held (number_of own) → is_due (line_there H c t own n w) q ≡ true
     → is_due (body_after (untested (caps H)) (went_bad (journal H c)) (asked_by H n) w (made_by n t (journal H c))) q ≡ true
 body_due H c t n own w q other inner due = ap (λ d. is_due d q) (sym (inner_is H c t own n w (number_of own) other inner)) ∙ due
 
@@ -78,7 +78,7 @@ step_sent made bad (calls.CloseRows rows) s = refl
 step_sent made bad (calls.CloseStmt handle) s = refl
 step_sent made bad q s = absurd s
 
-pub line_steps : (H : List Event) (c t n : ℕ) (own : Owner) (w : Wish) (q : DriverCall) → Kept H → place H c ≡ Some (Lent t own) → is_call own ≡ false → scope (work H n) ≡ Tx (number_of own)
+pub line_steps : (H : List Event) (c t n : ℕ) (own : Owner) (w : Wish) (q : DriverCall) → Kept H → place H c ≡ Some (Lent t own) → is_call own ≡ false → scope (work H n) ≡ Held (number_of own)
     → is_due (line_there H c t own n w) q ≡ true → is_some (step_of q) ≡ true
 line_steps H c t n own w q kept is other inner due =
     let line = line_facts H c t n own kept is other inner in
@@ -86,7 +86,7 @@ line_steps H c t n own w q kept is other inner due =
     (body_sends (caps H) (asked_by H n) (went_bad (journal H c)) w (made_by n t (journal H c)) q line.text line.order (body_due H c t n own w q other inner due))
 
 -- A driver call that is due over rows that the call handed out is about these rows.
-pub line_about : (H : List Event) (c t n : ℕ) (own : Owner) (w : Wish) (q : DriverCall) → Kept H → place H c ≡ Some (Lent t own) → is_call own ≡ false → scope (work H n) ≡ Tx (number_of own)
+pub line_about : (H : List Event) (c t n : ℕ) (own : Owner) (w : Wish) (q : DriverCall) → Kept H → place H c ≡ Some (Lent t own) → is_call own ≡ false → scope (work H n) ≡ Held (number_of own)
     → handed_there H c t n ≡ true → is_due (line_there H c t own n w) q ≡ true → is_about (made_by n t (journal H c)) q ≡ true
 line_about H c t n own w q kept is other inner hands due = by (handed (aim_of (work H n)) (made_by n t (journal H c))) refl hands
   where

@@ -36,9 +36,10 @@ use Rattle.dsql_laws_calls.proofs.laws.Tests.{both, other_number, same_number}
 use Rattle.dsql_laws_calls.specs.history.declared.event.Event.{Event}
 use Rattle.dsql_laws_calls.specs.history.declared.event.Event.TheVariants.{Heard, Pool}
 use Rattle.dsql_laws_calls.specs.history.declared.work.Scope.{Scope}
-use Rattle.dsql_laws_calls.specs.history.declared.work.Scope.TheVariants.{Db, Tx as In}
+use Rattle.dsql_laws_calls.specs.history.declared.work.Scope.TheVariants.{Db, Held as In}
 use Rattle.dsql_laws_calls.specs.history.declared.work.Work.{Work}
-use Rattle.dsql_laws_calls.specs.history.declared.work.Work.TheVariants.{Fetch, HandOut}
+use Rattle.dsql_laws_calls.specs.history.declared.work.Task.TheVariants.{HandOut}
+use Rattle.dsql_laws_calls.specs.history.declared.work.Work.TheVariants.{Statement, Fetch}
 use Rattle.dsql_laws_calls.specs.history.Readers.Course.{caps}
 use Rattle.dsql_laws_calls.specs.history.Readers.HandedOut.{are_live, are_over, handed_out, rows_by}
 use Rattle.dsql_laws_calls.specs.history.Readers.Journals.{heard_in, journal}
@@ -181,8 +182,8 @@ module _ (H : List Event) (e : Entry) (l : Lawful (Heard e ∷ H)) (own : Owner)
   cursor_of some = by (work H (number_of own)) (rows_hand_out H (number_of own) some) (own_cursor (exchanges (heard_in H e.conn e.tenure))) refl (held H e.conn e.tenure own l.0 lent some)
     where
       by : (w : Work) → hands_out w ≡ true → (o : Option ℕ) → own_cursor (exchanges (heard_in H e.conn e.tenure)) ≡ o → is_some o ≡ true → (r : ℕ) × (handed (aim_of w) (exchanges (heard_in H e.conn e.tenure)) ≡ Some r)
-      by (HandOut s label) x (Some r) its y = (r, its)
-      by (HandOut s label) x None its y = absurd cc
+      by (Statement s (HandOut label)) x (Some r) its y = (r, its)
+      by (Statement s (HandOut label)) x None its y = absurd cc
       by w x o its y = absurd cc
 
   -- What is due there, given what is wanted of the rows.

@@ -33,7 +33,7 @@ use Rattle.dsql_laws_calls.specs.history.Readers.HandedOut.{fetched, live, over,
 use Rattle.dsql_laws_calls.proofs.laws.Tests.{same_itself, same_number}
 use Rattle.dsql_laws_calls.specs.history.declared.event.Event.{Event}
 use Rattle.dsql_laws_calls.specs.history.declared.event.Event.TheVariants.{Entered, Heard, Pool, Ended}
-use Rattle.dsql_laws_calls.specs.history.declared.work.Scope.TheVariants.{Db, Tx}
+use Rattle.dsql_laws_calls.specs.history.declared.work.Scope.TheVariants.{Db, Held}
 use Rattle.dsql_laws_calls.specs.history.declared.work.Work.TheVariants.{Fetch}
 use Rattle.dsql_laws_calls.specs.history.Readers.Course.{caps}
 use Rattle.dsql_laws_calls.specs.history.Readers.Journals.{heard_in, journal}
@@ -146,7 +146,7 @@ module _ (H : List Event) (e : Entry) (l : Lawful (Heard e ∷ H)) (own : Owner)
   may : may_come H e ≡ true
   may = let there = heard_there H e l.1 in subst (λ at. sends_from H at e ≡ true) lent there.line
 
-  inner : scope (work H n) ≡ Tx (number_of own)
+  inner : scope (work H n) ≡ Held (number_of own)
   inner = scoped (work H n) (number_of own) hands
 
   tenure : IsOfTransaction (number_of own) e.tenure (journal H e.conn)
@@ -171,11 +171,11 @@ module _ (H : List Event) (e : Entry) (l : Lawful (Heard e ∷ H)) (own : Owner)
       absurd cc
   not_own some on its step (inr (inr w)) =
       let o = w.other in
-      let wrong : Db ≡ Tx (number_of own) = sym o.outside ∙ (ap (λ m. scope (work H m)) its ∙ inner) in
+      let wrong : Db ≡ Held (number_of own) = sym o.outside ∙ (ap (λ m. scope (work H m)) its ∙ inner) in
       absurd cc
 
   -- A driver call that names the query's cursor is due in the query's line.
-  sender : (x m : ℕ) (w : Wish) → scope (work H m) ≡ Tx (number_of own) → (e.call ≡ calls.Next x) ⊎ (e.call ≡ calls.CloseRows x) → has_cursor made x ≡ true → is_due (line_there H e.conn e.tenure own m w) e.call ≡ true → m ≡ n
+  sender : (x m : ℕ) (w : Wish) → scope (work H m) ≡ Held (number_of own) → (e.call ≡ calls.Next x) ⊎ (e.call ≡ calls.CloseRows x) → has_cursor made x ≡ true → is_due (line_there H e.conn e.tenure own m w) e.call ≡ true → m ≡ n
   sender x m w scope_is which had due_here = one_line (number_of own) e.tenure m n x (journal H e.conn) tenure (by which (body_sends (caps H) (asked_by H m) (went_bad (journal H e.conn)) w (made_by m e.tenure (journal H e.conn)) e.call line.text line.order (body_due H e.conn e.tenure m own w e.call other scope_is due_here))) had
     where
       line : LineOf H e.conn e.tenure m own

@@ -11,9 +11,9 @@ use Rattle.dsql_laws_calls.specs.history.Readers.Pool.{pool}
 use Rattle.dsql_laws_calls.specs.history.Readers.Tries.{was_served, tries}
 use Rattle.dsql_laws_calls.proofs.laws.Places.{neither}
 use Rattle.dsql_laws_calls.specs.history.declared.event.Event.{Event}
-use Rattle.dsql_laws_calls.specs.history.declared.work.Scope.TheVariants.{Tx}
+use Rattle.dsql_laws_calls.specs.history.declared.work.Scope.TheVariants.{Held}
 use Rattle.dsql_laws_calls.specs.history.declared.work.Work.{Work}
-use Rattle.dsql_laws_calls.specs.history.declared.work.Work.TheVariants.{Execute, ReadOne, HandOut, End, Fetch}
+use Rattle.dsql_laws_calls.specs.history.declared.work.Work.TheVariants.{Statement, End, Fetch}
 use Rattle.dsql_laws_calls.specs.history.Readers.Calls.{decided, reply_due, rests, told_at_lending, told_by_others}
 use Rattle.dsql_laws_calls.specs.history.Readers.Transactions.{is_begun}
 use Rattle.dsql_laws_calls.specs.history.Readers.Unfinished.{is_unfinished}
@@ -61,7 +61,5 @@ nowhere_replies H n l u none unwanting used may = by (work H n) refl
     by : (w : Work) → work H n ≡ w → is_some (reply_due H n) ≡ true
     by (Fetch k) is = fetch_replies H n k l u is none
     by (End k) is = end_replies H n k l u is none
-    by (Execute (Tx k)) is = inside_replies H n k l u (ap scope is) none
-    by (ReadOne (Tx k) dests) is = inside_replies H n k l u (ap scope is) none
-    by (HandOut (Tx k) label) is = inside_replies H n k l u (ap scope is) none
+    by (Statement (Held k) task) is = inside_replies H n k l u (ap scope is) none
     by w is = by_try (was_served (tries H n)) refl (ap is_elsewhere is)

@@ -25,7 +25,8 @@ use Rattle.dsql_laws_calls.proofs.laws.Wanted.{wanted}
 use Rattle.dsql_laws_calls.specs.history.declared.event.Event.{Event}
 use Rattle.dsql_laws_calls.specs.history.declared.event.Event.TheVariants.{Heard, Pool}
 use Rattle.dsql_laws_calls.specs.history.declared.work.Work.{Work}
-use Rattle.dsql_laws_calls.specs.history.declared.work.Work.TheVariants.{HandOut}
+use Rattle.dsql_laws_calls.specs.history.declared.work.Task.TheVariants.{HandOut}
+use Rattle.dsql_laws_calls.specs.history.declared.work.Work.TheVariants.{Statement}
 use Rattle.dsql_laws_calls.specs.history.Readers.Course.{caps}
 use Rattle.dsql_laws_calls.specs.history.Readers.HandedOut.{handed_out, rows_by}
 use Rattle.dsql_laws_calls.specs.history.Readers.Journals.{heard_in, journal}
@@ -126,11 +127,11 @@ lent_served (e ∷ H) c t own l is good = by (lent_served H c t own l.0) (lent_b
 
 -- No driver call over rows is one whose bad answer loses a try.
 over_untried : (it : Work) (q : DriverCall) (b : Bool) → hands_out it ≡ true → SentOver q wishes.Nothing b → is_tried it q ≡ false
-over_untried (HandOut s label) (Next rows) b h sent = refl
-over_untried (HandOut s label) (CloseRows rows) b h sent = refl
-over_untried (HandOut s label) (CloseStmt handle) b h sent = refl
-over_untried (HandOut s label) Valid b h sent = refl
-over_untried (HandOut s label) q b h sent = absurd sent
+over_untried (Statement s (HandOut label)) (Next rows) b h sent = refl
+over_untried (Statement s (HandOut label)) (CloseRows rows) b h sent = refl
+over_untried (Statement s (HandOut label)) (CloseStmt handle) b h sent = refl
+over_untried (Statement s (HandOut label)) Valid b h sent = refl
+over_untried (Statement s (HandOut label)) q b h sent = absurd sent
 over_untried it q b h sent = absurd cc
 
 -- An answer that gives a cursor isn't bad.

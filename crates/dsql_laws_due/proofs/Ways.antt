@@ -24,9 +24,10 @@ use Rattle.dsql_laws_calls.specs.history.Rules.Wishes.{wish_as}
 use Rattle.dsql_laws_calls.proofs.laws.Tests.{both, same_number, same_itself}
 use Rattle.dsql_laws_calls.specs.history.declared.event.Event.{Event}
 use Rattle.dsql_laws_calls.specs.history.declared.work.Scope.{Scope}
-use Rattle.dsql_laws_calls.specs.history.declared.work.Scope.TheVariants.{Db, Tx}
+use Rattle.dsql_laws_calls.specs.history.declared.work.Scope.TheVariants.{Db, Held}
 use Rattle.dsql_laws_calls.specs.history.declared.work.Work.{Work}
-use Rattle.dsql_laws_calls.specs.history.declared.work.Work.TheVariants.{Execute, ReadOne, HandOut, Begin, End, Ping, Fetch, Close, Look}
+use Rattle.dsql_laws_calls.specs.history.declared.work.Task.TheVariants.{Execute, ReadOne, HandOut}
+use Rattle.dsql_laws_calls.specs.history.declared.work.Work.TheVariants.{Statement, Begin, End, Ping, Fetch, Close, Look}
 use Rattle.dsql_laws_calls.specs.history.Readers.Course.{caps}
 use Rattle.dsql_laws_calls.specs.history.Readers.Unfinished.{is_unfinished}
 use Rattle.dsql_laws_calls.specs.history.Readers.Works.{works, work, scope, asks, borrower, hands_out_in, is_in, is_fetch, aim_of, owner_as}
@@ -68,8 +69,8 @@ owner_begins H c t own l is other = let o = owner_is_of H c t own l is in by (wo
     by (Begin label level read_only) h = refl
     by _ h = absurd cc
 
-in_scope : (s : Scope) (k : ℕ) → is_in k s ≡ true → s ≡ Tx k
-in_scope (Tx n) k h = ap Tx (same_number n k h)
+in_scope : (s : Scope) (k : ℕ) → is_in k s ≡ true → s ≡ Held k
+in_scope (Held n) k h = ap Held (same_number n k h)
 in_scope Db k h = absurd cc
 
 -- The rows of a transaction that is over are over.
@@ -86,7 +87,7 @@ rows_over H n k l hands gone some = by (are_live H n) refl
 -- If a Commit or a Rollback is due, nothing is open, unless the connection is known to be bad.
 
 module _ (H : List Event) (e : Entry) (t : ℕ) (own : Owner) (l : Lawful H) (f : Facts H) (kept : Kept H) (d : DueNow H e) (same : d.owner ≡ own) (other : is_call own ≡ false)
-    (elsewhere : (n : ℕ) → scope (work H n) ≡ Tx (number_of own) → n ≢ e.call_no) (gone : is_over H (number_of own) ≡ true) (closed : first_closing H (number_of own) 0 (works H) ≡ None)
+    (elsewhere : (n : ℕ) → scope (work H n) ≡ Held (number_of own) → n ≢ e.call_no) (gone : is_over H (number_of own) ≡ true) (closed : first_closing H (number_of own) 0 (works H) ≡ None)
     (good : went_bad (journal H e.conn) ≡ false) where
   lent : place H e.conn ≡ Some (Lent e.tenure own)
   lent = subst (λ o. place H e.conn ≡ Some (Lent e.tenure o)) same d.lent
@@ -102,7 +103,7 @@ module _ (H : List Event) (e : Entry) (t : ℕ) (own : Owner) (l : Lawful H) (f 
       by false is = refl
 
   -- Nothing is due in the line of call n.
-  unsent : (n : ℕ) → scope (work H n) ≡ Tx (number_of own) → is_some (inner_after (caps H) (went_bad (journal H e.conn)) (asked_by H n) wishes.Close (line_among n (heard_in H e.conn e.tenure))) ≡ false → IsShut (made n)
+  unsent : (n : ℕ) → scope (work H n) ≡ Held (number_of own) → is_some (inner_after (caps H) (went_bad (journal H e.conn)) (asked_by H n) wishes.Close (line_among n (heard_in H e.conn e.tenure))) ≡ false → IsShut (made n)
   unsent n inner none =
       let keeps = kept.lines e.conn e.tenure own lent other in
       let asked : asked_in H (number_of own) n ≡ Some (asked_by H n) =
@@ -111,7 +112,7 @@ module _ (H : List Event) (e : Entry) (t : ℕ) (own : Owner) (l : Lawful H) (f 
       line_shut (caps H) (asked_by H n) (made n) (keeps.text n (asked_by H n) asked) (keeps.own n (asked_by H n) asked) (fine n)
       (sym (ap (λ b. is_some (body_after (untested (caps H)) b (asked_by H n) wishes.Close (made n))) good) ∙ none)
 
-  handed_shut : (n : ℕ) → scope (work H n) ≡ Tx (number_of own) → handed_there H e.conn e.tenure n ≡ true → IsShut (made n)
+  handed_shut : (n : ℕ) → scope (work H n) ≡ Held (number_of own) → handed_there H e.conn e.tenure n ≡ true → IsShut (made n)
   handed_shut n inner h =
       let hands = hands_of (work H n) (made n) h in
       let in_it = hands_in (work H n) hands inner in
@@ -123,12 +124,12 @@ module _ (H : List Event) (e : Entry) (t : ℕ) (own : Owner) (l : Lawful H) (f 
       ∙ (sym (ap (λ o. is_some o) (line_here H e.conn e.tenure own n wishes.Close l lent (inside_uses H n (number_of own) inner)))
       ∙ (sym (ap (λ b. is_some (cond b (line_of H n wishes.Close) None)) dead) ∙ none)))
     where
-      hands_in : (w : Work) → hands_out w ≡ true → scope w ≡ Tx (number_of own) → hands_out_in (number_of own) w ≡ true
-      hands_in (HandOut s label) x y = ap (is_in (number_of own)) y ∙ same_itself (number_of own)
+      hands_in : (w : Work) → hands_out w ≡ true → scope w ≡ Held (number_of own) → hands_out_in (number_of own) w ≡ true
+      hands_in (Statement s (HandOut label)) x y = ap (is_in (number_of own)) y ∙ same_itself (number_of own)
       hands_in w x y = absurd cc
 
       cursor : (w : Work) → is_some (handed (aim_of w) (made n)) ≡ true → is_some (own_cursor (made n)) ≡ true
-      cursor (HandOut s label) x = x
+      cursor (Statement s (HandOut label)) x = x
       cursor w x = absurd cc
 
       unclosed : (b : Bool) → is_some (close_due H n) ≡ b → hands_out_in (number_of own) (work H n) ≡ true → b ≡ false
@@ -137,16 +138,16 @@ module _ (H : List Event) (e : Entry) (t : ℕ) (own : Owner) (l : Lawful H) (f 
           clash (sym some ∙ ap (λ o. is_some o) closed)
       unclosed false is in_it = refl
 
-  quiet_shut : (n : ℕ) → scope (work H n) ≡ Tx (number_of own) → Quiet (caps H) (went_bad (journal H e.conn)) (asked_by H n) (line_made H e.conn e.tenure n) → IsShut (made n)
+  quiet_shut : (n : ℕ) → scope (work H n) ≡ Held (number_of own) → Quiet (caps H) (went_bad (journal H e.conn)) (asked_by H n) (line_made H e.conn e.tenure n) → IsShut (made n)
   quiet_shut n inner q = unsent n inner (quiet_sends_none (caps H) (went_bad (journal H e.conn)) (asked_by H n) wishes.Close (line_among n (heard_in H e.conn e.tenure)) q)
 
-  newest_shut : (n : ℕ) → scope (work H n) ≡ Tx (number_of own) → is_unfinished H n ≡ true → Newest H e.conn e.tenure n → IsShut (made n)
+  newest_shut : (n : ℕ) → scope (work H n) ≡ Held (number_of own) → is_unfinished H n ≡ true → Newest H e.conn e.tenure n → IsShut (made n)
   newest_shut n inner u newest = by (handed_there H e.conn e.tenure n) refl
     where
       silent : is_some (line_there H e.conn e.tenure own n wishes.Nothing) ≡ false
       silent =
           subst (λ o. is_some (line_there H e.conn e.tenure o n wishes.Nothing) ≡ false) same
-          (turn_of H e l d n (elsewhere n inner) newest.sender (subst (λ o. scope (work H n) ≡ Tx (number_of o)) (sym same) inner) u)
+          (turn_of H e l d n (elsewhere n inner) newest.sender (subst (λ o. scope (work H n) ≡ Held (number_of o)) (sym same) inner) u)
 
       none_of : (o : Option ℕ) → is_some o ≡ false → o ≡ None
       none_of None h = refl
@@ -159,7 +160,7 @@ module _ (H : List Event) (e : Entry) (t : ℕ) (own : Owner) (l : Lawful H) (f 
           (ap (λ o. is_some o) (unhanded_wish (untested (caps H)) (went_bad (journal H e.conn)) (asked_by H n) wishes.Close wishes.Nothing (made n) (none_of (handed (aim_of (work H n)) (made n)) h))
           ∙ (sym (ap (λ o. is_some o) (inner_is H e.conn e.tenure own n wishes.Nothing (number_of own) other inner)) ∙ silent))
 
-  sent_shut : (n : ℕ) → scope (work H n) ≡ Tx (number_of own) → has_sent n (journal H e.conn) ≡ true → IsShut (made n)
+  sent_shut : (n : ℕ) → scope (work H n) ≡ Held (number_of own) → has_sent n (journal H e.conn) ≡ true → IsShut (made n)
   sent_shut n inner sent = by (is_unfinished H n) refl
     where
       going : is_unfinished H n ≡ true → Going H e.conn e.tenure n → IsShut (made n)
@@ -178,7 +179,7 @@ module _ (H : List Event) (e : Entry) (t : ℕ) (own : Owner) (l : Lawful H) (f 
   each_shut : (n : ℕ) → IsShut (made n)
   each_shut n = by (is_in (number_of own) (scope (work H n))) refl
     where
-      inside : (b : Bool) → has_sent n (journal H e.conn) ≡ b → scope (work H n) ≡ Tx (number_of own) → IsShut (made n)
+      inside : (b : Bool) → has_sent n (journal H e.conn) ≡ b → scope (work H n) ≡ Held (number_of own) → IsShut (made n)
       inside true sent inner = sent_shut n inner sent
       inside false sent inner =
           subst IsShut (sym (ap exchanges (unsent_line n (of_tenure e.tenure (journal H e.conn)) (unsent_in n e.tenure (journal H e.conn) sent))))
@@ -239,7 +240,7 @@ rows_way H c t own m n q l is hands due = by (are_over H n) refl due
     }
     by false over x = absurd cc
 
-ending_way : (H : List Event) (e : Entry) (own : Owner) → Lawful H → Facts H → Kept H → (d : DueNow H e) → d.owner ≡ own → is_call own ≡ false → ((n : ℕ) → scope (work H n) ≡ Tx (number_of own) → n ≢ e.call_no)
+ending_way : (H : List Event) (e : Entry) (own : Owner) → Lawful H → Facts H → Kept H → (d : DueNow H e) → d.owner ≡ own → is_call own ≡ false → ((n : ℕ) → scope (work H n) ≡ Held (number_of own) → n ≢ e.call_no)
     → is_due (ending H (number_of own)) e.call ≡ true → TxWay H e.conn e.tenure own e.call_no e.call
 ending_way H e own l f kept d same other elsewhere due = by (tx_end H (number_of own)) refl due
   where
@@ -285,7 +286,7 @@ ending_way H e own l f kept d same other elsewhere due = by (tx_end H (number_of
         record { begun = over_begun H (number_of own) gone; way = parts end (first_closing H (number_of own) 0 (works H)) gone refl (here end x) }
 
 -- What the layer sends.
-layer_way : (H : List Event) (e : Entry) (own : Owner) → Lawful H → Facts H → Kept H → (d : DueNow H e) → d.owner ≡ own → is_call own ≡ false → ((n : ℕ) → scope (work H n) ≡ Tx (number_of own) → n ≢ e.call_no)
+layer_way : (H : List Event) (e : Entry) (own : Owner) → Lawful H → Facts H → Kept H → (d : DueNow H e) → d.owner ≡ own → is_call own ≡ false → ((n : ℕ) → scope (work H n) ≡ Held (number_of own) → n ≢ e.call_no)
     → is_due (tidying H (number_of own)) e.call ≡ true → TxWay H e.conn e.tenure own e.call_no e.call
 layer_way H e own l f kept d same other elsewhere due = by (is_begun H (number_of own)) due
   where
@@ -332,11 +333,11 @@ over_way H e own j l f d same other some which due =
     hands_in number = of_work (work H j) refl (rows_hand_out H j rows)
       where
         of_work : (v : Work) → work H j ≡ v → hands_out v ≡ true → hands_out_in (number_of own) (work H j) ≡ true
-        of_work (HandOut Db label) its x =
+        of_work (Statement Db (HandOut label)) its x =
             let itself : number_of own ≡ j = number ∙ rw its refl in
             let wrong : true ≡ false = sym (owner_begins H e.conn e.tenure own l lent_here other) ∙ (ap (λ i. begins (work H i)) itself ∙ ap begins its) in
             absurd cc
-        of_work (HandOut (Tx k) label) its x = let number_k : number_of own ≡ k = number ∙ rw its refl in ap (λ i. hands_out_in i (work H j)) number_k ∙ (ap (hands_out_in k) its ∙ same_itself k)
+        of_work (Statement (Held k) (HandOut label)) its x = let number_k : number_of own ≡ k = number ∙ rw its refl in ap (λ i. hands_out_in i (work H j)) number_k ∙ (ap (hands_out_in k) its ∙ same_itself k)
         of_work v its x = absurd cc
 
     wanted : (w : Wish) → is_due (line_of H j w) e.call ≡ true → (hands_out_in (number_of own) (work H j) ≡ true → (ended_there (heard_in H e.conn e.tenure) ≡ false) ⊎ (w ≡ wishes.Close))
@@ -378,8 +379,8 @@ due_tx_way H e own l f kept h is other its = whose (e.call_no == 0) refl (due_no
     same_lent : (o p : Owner) → Some (Lent e.tenure o) ≡ Some (Lent e.tenure p) → o ≡ p
     same_lent o p k = cc
 
-    elsewhere : (n : ℕ) → scope (work H n) ≡ Tx (number_of own) → n ≢ e.call_no
-    elsewhere n inner same = let wrong : Db ≡ Tx (number_of own) = sym its.outside ∙ (ap (λ m. scope (work H m)) (sym same) ∙ inner) in cc
+    elsewhere : (n : ℕ) → scope (work H n) ≡ Held (number_of own) → n ≢ e.call_no
+    elsewhere n inner same = let wrong : Db ≡ Held (number_of own) = sym its.outside ∙ (ap (λ m. scope (work H m)) (sym same) ∙ inner) in cc
 
     work_of : (d : DueNow H e) → d.owner ≡ own → (e.call_no == 0) ≡ false → (w : Work) → work H e.call_no ≡ w → asks w ≡ false → scope w ≡ Db → is_due (due_in H e.call_no w) e.call ≡ true → TxWay H e.conn e.tenure own e.call_no e.call
     work_of d same some (Fetch j) is_work a s x = over_way H e own j l f d same other some (inl is_work) x
@@ -394,12 +395,12 @@ due_tx_way H e own l f kept h is other its = whose (e.call_no == 0) refl (due_no
             ending_way H e own l f kept d same other elsewhere (ap (λ i. is_due (ending H i) e.call) number ∙ y)
         by_ender false y = absurd cc
     work_of d same some Look is_work a s x = absurd cc
-    work_of d same some (Execute Db) is_work a s x = absurd cc
-    work_of d same some (Execute (Tx k)) is_work a s x = absurd cc
-    work_of d same some (ReadOne Db dests) is_work a s x = absurd cc
-    work_of d same some (ReadOne (Tx k) dests) is_work a s x = absurd cc
-    work_of d same some (HandOut Db label) is_work a s x = absurd cc
-    work_of d same some (HandOut (Tx k) label) is_work a s x = absurd cc
+    work_of d same some (Statement Db Execute) is_work a s x = absurd cc
+    work_of d same some (Statement (Held k) Execute) is_work a s x = absurd cc
+    work_of d same some (Statement Db (ReadOne dests)) is_work a s x = absurd cc
+    work_of d same some (Statement (Held k) (ReadOne dests)) is_work a s x = absurd cc
+    work_of d same some (Statement Db (HandOut label)) is_work a s x = absurd cc
+    work_of d same some (Statement (Held k) (HandOut label)) is_work a s x = absurd cc
     work_of d same some (Begin label level read_only) is_work a s x = absurd cc
     work_of d same some Ping is_work a s x = absurd cc
 

@@ -24,9 +24,10 @@ use Rattle.dsql_laws_calls.specs.history.declared.event.Event.{Event}
 use Rattle.dsql_laws_calls.specs.history.declared.event.Event.TheVariants.{Entered, Heard}
 use Rattle.dsql_laws_calls.specs.history.declared.event.Op.{Op}
 use Rattle.dsql_laws_calls.specs.history.declared.event.Op.TheVariants.{RowsClose, Commit, Rollback}
-use Rattle.dsql_laws_calls.specs.history.declared.work.Scope.TheVariants.{Db, Tx as InTx}
+use Rattle.dsql_laws_calls.specs.history.declared.work.Scope.TheVariants.{Db, Held as InTx}
 use Rattle.dsql_laws_calls.specs.history.declared.work.Work.{Work}
-use Rattle.dsql_laws_calls.specs.history.declared.work.Work.TheVariants.{Fetch, Close, End, HandOut}
+use Rattle.dsql_laws_calls.specs.history.declared.work.Task.TheVariants.{HandOut}
+use Rattle.dsql_laws_calls.specs.history.declared.work.Work.TheVariants.{Statement, Fetch, Close, End}
 use Rattle.dsql_laws_calls.specs.history.Readers.Transactions.{end_of, ending_call, ends_as, goes_on, transactions, tx_by, tx_ender}
 use Rattle.dsql_laws_calls.specs.history.Readers.Unfinished.{is_unfinished}
 use Rattle.dsql_laws_calls.specs.history.Readers.Works.{asks, hands_out_in, rows_maker, tx_maker, work, work_of, works}
@@ -45,8 +46,8 @@ WorksOn it n = (it ≡ Fetch n) ⊎ (it ≡ Close n)
 -- Only calls on rows of a query on the database end these rows.
 
 outside : (it : Work) (k : ℕ) → asks it ≡ true → hands_out_in k it ≡ false
-outside (HandOut Db label) k own = refl
-outside (HandOut (InTx j) label) k own = absurd cc
+outside (Statement Db (HandOut label)) k own = refl
+outside (Statement (InTx j) (HandOut label)) k own = absurd cc
 outside it k own = refl
 
 abbrev lives_in : ℕ → Made → Bool

@@ -20,9 +20,9 @@ use Rattle.dsql_laws_calls.specs.history.declared.event.Event.{Event}
 use Rattle.dsql_laws_calls.specs.history.declared.event.Event.TheVariants.{Entered, Heard, Pool, Replied}
 use Rattle.dsql_laws_calls.specs.history.declared.reply.Reply.{Reply}
 use Rattle.dsql_laws_calls.specs.history.declared.work.Scope.{Scope}
-use Rattle.dsql_laws_calls.specs.history.declared.work.Scope.TheVariants.{Db, Tx}
+use Rattle.dsql_laws_calls.specs.history.declared.work.Scope.TheVariants.{Db, Held}
 use Rattle.dsql_laws_calls.specs.history.declared.work.Work.{Work}
-use Rattle.dsql_laws_calls.specs.history.declared.work.Work.TheVariants.{Execute, ReadOne, HandOut, End}
+use Rattle.dsql_laws_calls.specs.history.declared.work.Work.TheVariants.{Statement, End}
 use Rattle.dsql_laws_calls.specs.history.Readers.Calls.{decided, has_begun_to_send, rests}
 use Rattle.dsql_laws_calls.specs.history.Readers.Pool.{place}
 use Rattle.dsql_laws_calls.specs.history.Readers.Transactions.{ending_call, goes_on, is_begun, is_over, tx_ender}
@@ -88,9 +88,7 @@ due_of : (H : List Event) (n : ℕ) → is_unfinished H n ≡ true → due_for H
 due_of H n u = ap (λ (b : Bool). cond b (due_in H n (work H n)) None) u
 
 on_database : (it : Work) → asks it ≡ true → scope it ≡ Db
-on_database (Execute (Tx k)) own = absurd cc
-on_database (ReadOne (Tx k) dests) own = absurd cc
-on_database (HandOut (Tx k) label) own = absurd cc
+on_database (Statement (Held k) task) own = absurd cc
 on_database _ own = refl
 
 closing_due : (H : List Event) (m n : ℕ) (it : Work) → WorksOn it n → asks (work H n) ≡ true → ender H n ≡ m → due_in H m it ≡ line_of H n wishes.Close

@@ -5,9 +5,10 @@ use Rattle.std.proofs.Common.{◌≡◌, ◌≢◌, ℕ, ◌≤◌, ◌⊎◌, i
 use Rattle.dsql_laws_calls.specs.journal.declared.entry.Entry.{Entry}
 use Rattle.dsql_laws_calls.specs.history.declared.event.Event.{Event}
 use Rattle.dsql_laws_calls.specs.history.declared.event.Event.TheVariants.{Heard}
-use Rattle.dsql_laws_calls.specs.history.declared.work.Scope.TheVariants.{Db, Tx}
+use Rattle.dsql_laws_calls.specs.history.declared.work.Scope.TheVariants.{Db, Held}
 use Rattle.dsql_laws_calls.specs.history.declared.work.Work.{Work}
-use Rattle.dsql_laws_calls.specs.history.declared.work.Work.TheVariants.{Execute, ReadOne, HandOut, Ping}
+use Rattle.dsql_laws_calls.specs.history.declared.work.Task.TheVariants.{Execute, ReadOne, HandOut}
+use Rattle.dsql_laws_calls.specs.history.declared.work.Work.TheVariants.{Statement, Ping}
 use Rattle.dsql_laws_calls.specs.history.Readers.Works.{scope, work}
 use Rattle.dsql_laws_calls.specs.history.Legal.{Lawful}
 use Rattle.dsql_laws_once.specs.Once.{is_statement, carried_out, reads_one}
@@ -17,15 +18,15 @@ use Rattle.dsql_laws_once.proofs.Stated.{states, carried_states, statement_state
 
 -- Holds if the work is on the database, or in a transaction.
 abbrev Place : Work → Type 0
-Place w = (works_alone w ≡ true) ⊎ ((k : ℕ) × (scope w ≡ Tx k))
+Place w = (works_alone w ≡ true) ⊎ ((k : ℕ) × (scope w ≡ Held k))
 
 placed : (w : Work) → states w ≡ true → reads_one w ≡ false → Place w
-placed (Execute Db) h one = inl refl
-placed (Execute (Tx k)) h one = inr (k, refl)
-placed (ReadOne Db dests) h one = absurd cc
-placed (ReadOne (Tx k) dests) h one = inr (k, refl)
-placed (HandOut Db label) h one = inl refl
-placed (HandOut (Tx k) label) h one = inr (k, refl)
+placed (Statement Db Execute) h one = inl refl
+placed (Statement (Held k) Execute) h one = inr (k, refl)
+placed (Statement Db (ReadOne dests)) h one = absurd cc
+placed (Statement (Held k) (ReadOne dests)) h one = inr (k, refl)
+placed (Statement Db (HandOut label)) h one = inl refl
+placed (Statement (Held k) (HandOut label)) h one = inr (k, refl)
 placed Ping h one = inl refl
 placed w h one = absurd cc
 

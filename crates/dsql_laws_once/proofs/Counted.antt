@@ -23,7 +23,8 @@ use Rattle.dsql_laws_calls.specs.history.declared.event.Event.{Event}
 use Rattle.dsql_laws_calls.specs.history.declared.event.Event.TheVariants.{Entered, Heard}
 use Rattle.dsql_laws_calls.specs.history.declared.work.Scope.TheVariants.{Db}
 use Rattle.dsql_laws_calls.specs.history.declared.work.Work.{Work}
-use Rattle.dsql_laws_calls.specs.history.declared.work.Work.TheVariants.{ReadOne}
+use Rattle.dsql_laws_calls.specs.history.declared.work.Task.TheVariants.{ReadOne}
+use Rattle.dsql_laws_calls.specs.history.declared.work.Work.TheVariants.{Statement}
 use Rattle.dsql_laws_calls.specs.history.Readers.Calls.{decided}
 use Rattle.dsql_laws_calls.specs.history.Readers.Course.{caps}
 use Rattle.dsql_laws_calls.specs.history.Readers.HandedOut.{rows_by}
@@ -80,7 +81,7 @@ Counts H n _ = ⊥
 -- Such a call hands out no rows and begins no transaction.
 
 no_hands : (w : Work) → reads_one w ≡ true → hands_out w ≡ false
-no_hands (ReadOne Db dests) one = refl
+no_hands (Statement Db (ReadOne dests)) one = refl
 no_hands w one = absurd cc
 
 rowless : (H : List Event) (n : ℕ) → reads_one (work H n) ≡ true → is_some (rows_by H n) ≡ true → ⊥

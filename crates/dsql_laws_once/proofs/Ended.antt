@@ -18,7 +18,7 @@ use Rattle.dsql_laws_calls.proofs.laws.Tests.{both, same_number}
 use Rattle.dsql_laws_calls.specs.history.declared.event.Event.{Event}
 use Rattle.dsql_laws_calls.specs.history.declared.event.Event.TheVariants.{Heard}
 use Rattle.dsql_laws_calls.specs.history.declared.work.Scope.{Scope}
-use Rattle.dsql_laws_calls.specs.history.declared.work.Scope.TheVariants.{Db, Tx}
+use Rattle.dsql_laws_calls.specs.history.declared.work.Scope.TheVariants.{Db, Held}
 use Rattle.dsql_laws_calls.specs.history.Readers.Course.{caps}
 use Rattle.dsql_laws_calls.specs.history.Readers.Journals.{heard_in}
 use Rattle.dsql_laws_calls.specs.history.Readers.Lines.{line_in}
@@ -98,12 +98,12 @@ ending_other H e l may ending = record { asks_none = of_asks (asks (work H e.cal
 
     of_scope : (s : Scope) → scope (work H e.call_no) ≡ s → s ≡ Db
     of_scope Db is = refl
-    of_scope (Tx k) is =
+    of_scope (Held k) is =
         let s = sound H l in
         let u = s.coming e may in
         let some : e.call_no ≢ 0 = λ none. never (e.call_no == 0) (ap (λ j. j == 0) none) (number_not H e.call_no k is) in
         let number : number_of u.owner ≡ k = sym (u.borrowed some) ∙ inside_uses H e.call_no k is in
-        let way = u.within (is ∙ ap Tx (sym number)) in
+        let way = u.within (is ∙ ap Held (sym number)) in
         absurd (never (is_ending e.call) ending (line_ends_none H e.conn e.tenure u.owner e.call_no e.call way.due))
 
 -- It is sent in a tenure of a transaction that was begun and for which no end was heard yet.

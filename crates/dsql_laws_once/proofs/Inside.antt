@@ -19,7 +19,7 @@ use Rattle.dsql_laws_calls.proofs.laws.Tests.{same_itself, other_number}
 use Rattle.dsql_laws_calls.specs.history.declared.event.Event.{Event}
 use Rattle.dsql_laws_calls.specs.history.declared.event.Event.TheVariants.{Entered, Heard}
 use Rattle.dsql_laws_calls.specs.history.declared.event.Op.{Op}
-use Rattle.dsql_laws_calls.specs.history.declared.work.Scope.TheVariants.{Tx}
+use Rattle.dsql_laws_calls.specs.history.declared.work.Scope.TheVariants.{Held}
 use Rattle.dsql_laws_calls.specs.history.Readers.Course.{caps}
 use Rattle.dsql_laws_calls.specs.history.Readers.Journals.{heard_in, journal}
 use Rattle.dsql_laws_calls.specs.history.Readers.Lines.{has_sent, is_about, line_among}
@@ -59,7 +59,7 @@ line_as : (P : Caps → Aim → ℕ → List Exchange → Type 0) (ca cb : Caps)
 line_as P ca cb x y n L M a b c h = rw (a, b, c) h
 
 -- An event that is no answer keeps the state of the line.
-lines_quiet : (P : Caps → Aim → ℕ → List Exchange → Type 0) (H : List Event) (e : Event) (n k : ℕ) → Lawful (e ∷ H) → is_answer e ≡ false → scope (work H n) ≡ Tx k
+lines_quiet : (P : Caps → Aim → ℕ → List Exchange → Type 0) (H : List Event) (e : Event) (n k : ℕ) → Lawful (e ∷ H) → is_answer e ≡ false → scope (work H n) ≡ Held k
     → ((c t : ℕ) (own : Owner) → number_of own ≡ k → Lends e c t own → P (caps (e ∷ H)) (asked_by (e ∷ H) n).aim (length (asked_by (e ∷ H) n).params) (line_made (e ∷ H) c t n)) → Lines P H n k → Lines P (e ∷ H) n k
 lines_quiet P H e n k l quiet s lends m = λ c t own is number.
     elim (lent_before H e c t own l.0 is) [
@@ -70,7 +70,7 @@ lines_quiet P H e n k l quiet s lends m = λ c t own is number.
     ]
 
 -- An answer to another call keeps the state of the line.
-lines_beside : (P : Caps → Aim → ℕ → List Exchange → Type 0) (H : List Event) (e : Entry) (n k : ℕ) → Lawful (Heard e ∷ H) → scope (work H n) ≡ Tx k → (e.call_no == n) ≡ false
+lines_beside : (P : Caps → Aim → ℕ → List Exchange → Type 0) (H : List Event) (e : Entry) (n k : ℕ) → Lawful (Heard e ∷ H) → scope (work H n) ≡ Held k → (e.call_no == n) ≡ false
     → ((can : Caps) (aim : Aim) (count : ℕ) (made : List Exchange) (q : DriverCall) (a : DriverAnswer) → is_about made q ≡ true → P can aim count (with_exchange (step_of q) a made)) → Lines P H n k → Lines P (Heard e ∷ H) n k
 lines_beside P H e n k l s other about m = λ c t own is number. by c t own is (m c t own is number) (same_or_not e.conn c)
   where
@@ -109,13 +109,13 @@ record OwnInside (H : List Event) (e : Entry) (k : ℕ) : Type 0 where
   begun : is_begun H k ≡ true
   due : is_due (inner_after (caps H) (went_bad (journal H e.conn)) (asked_by H e.call_no) wishes.Nothing (line_among e.call_no (heard_in H e.conn e.tenure))) e.call ≡ true
 
-own_inside : (H : List Event) (e : Entry) (k : ℕ) → Lawful (Heard e ∷ H) → e.call_no ≢ 0 → scope (work H e.call_no) ≡ Tx k → OwnInside H e k
+own_inside : (H : List Event) (e : Entry) (k : ℕ) → Lawful (Heard e ∷ H) → e.call_no ≢ 0 → scope (work H e.call_no) ≡ Held k → OwnInside H e k
 own_inside H e k l some s = let x = under_way H e l some in by x.1 (let i = inside H l.0 in i.coming e k x.0 s)
   where
     by : UnderWay H e → is_begun H k ≡ true → OwnInside H e k
     by u begun =
         let number : number_of u.owner ≡ k = sym (u.borrowed some) ∙ inside_uses H e.call_no k s in
-        let way = u.within (s ∙ ap Tx (sym number)) in
+        let way = u.within (s ∙ ap Held (sym number)) in
         let other : is_call u.owner ≡ false = begin_owner H e.conn e.tenure u.owner l.0 u.lent (begun_begins H (number_of u.owner) l.0 (ap (is_begun H) number ∙ begun)) in
         record {
           owner = u.owner;
@@ -125,7 +125,7 @@ own_inside H e k l some s = let x = under_way H e l some in by x.1 (let i = insi
           due = ap (λ d. is_due d e.call) (sym (inner_is H e.conn e.tenure u.owner e.call_no wishes.Nothing k other s)) ∙ way.due;
         }
 
-lines_own : (P : Caps → Aim → ℕ → List Exchange → Type 0) (H : List Event) (e : Entry) (k : ℕ) → Lawful (Heard e ∷ H) → scope (work H e.call_no) ≡ Tx k → (u : OwnInside H e k)
+lines_own : (P : Caps → Aim → ℕ → List Exchange → Type 0) (H : List Event) (e : Entry) (k : ℕ) → Lawful (Heard e ∷ H) → scope (work H e.call_no) ≡ Held k → (u : OwnInside H e k)
     → P (caps H) (asked_by H e.call_no).aim (length (asked_by H e.call_no).params) (with_exchange (step_of e.call) e.answer (line_made H e.conn e.tenure e.call_no)) → Lines P (Heard e ∷ H) e.call_no k
 lines_own P H e k l s u now = λ c t own is number.
     let one = one_place H e.conn e.tenure c t u.owner own l.0 u.lent is (u.number ∙ sym number) in
@@ -139,7 +139,7 @@ lines_own P H e k l s u now = λ c t own is number.
 
 -- How far the call has come in its line.
 
-answered : (H : List Event) (e : Entry) (k : ℕ) → Lawful (Heard e ∷ H) → scope (work H e.call_no) ≡ Tx k → OwnInside H e k → Lines InLine H e.call_no k
+answered : (H : List Event) (e : Entry) (k : ℕ) → Lawful (Heard e ∷ H) → scope (work H e.call_no) ≡ Held k → OwnInside H e k → Lines InLine H e.call_no k
     → InLine (caps H) (asked_by H e.call_no).aim (length (asked_by H e.call_no).params) (with_exchange (step_of e.call) e.answer (line_made H e.conn e.tenure e.call_no))
 answered H e k l s u m =
     let asked = asked_by H e.call_no in
@@ -154,7 +154,7 @@ lent_new H e n l quiet c t own w =
     let fresh : heard_in (e ∷ H) c t ≡ [] = ap (of_tenure t) (heard_same H e c quiet) ∙ fresh_lending H c t own w.0 l.0 (subst (λ x. Allowed H x) w.1 l.1) in
     none_sent InLine (caps (e ∷ H)) (asked_by (e ∷ H) n) n (heard_in (e ∷ H) c t) (ap (line_among n) fresh) (inl (inl (inl refl)))
 
-lines_on : (H : List Event) (e : Event) (n k : ℕ) → Lawful (e ∷ H) → is_answer e ≡ false → scope (work H n) ≡ Tx k → Lines InLine H n k → Lines InLine (e ∷ H) n k
+lines_on : (H : List Event) (e : Event) (n k : ℕ) → Lawful (e ∷ H) → is_answer e ≡ false → scope (work H n) ≡ Held k → Lines InLine H n k → Lines InLine (e ∷ H) n k
 lines_on H e n k l quiet s m = lines_quiet InLine H e n k l quiet s (λ c t own number w. lent_new H e n l quiet c t own w) m
 
 lines_entered : (H : List Event) (client m : ℕ) (op : Op) (k : ℕ) → Lawful (Entered client m op ∷ H) → m ≢ 0 → Lines InLine (Entered client m op ∷ H) m k
@@ -164,13 +164,13 @@ lines_entered H client m op k l some c t own is number = none_sent InLine (caps 
     by true sent = let less = sent_entered H c m l.0 some sent in let new = enters_next H client m op l.1 in absurd (omega (arith, less, new))
     by false sent = refl
 
-lines : (H : List Event) (n k : ℕ) → Lawful H → n ≢ 0 → scope (work H n) ≡ Tx k → Lines InLine H n k
+lines : (H : List Event) (n k : ℕ) → Lawful H → n ≢ 0 → scope (work H n) ≡ Held k → Lines InLine H n k
 lines [] n k l some s = λ c t own is number. absurd cc
 lines (Heard e ∷ H) n k l some s = by (same_or_not e.call_no n) (lines H n k l.0 some s)
   where
     own : e.call_no ≡ n → Lines InLine H n k → Lines InLine (Heard e ∷ H) n k
     own mine m =
-        let its : scope (work H e.call_no) ≡ Tx k = ap (λ j. scope (work H j)) mine ∙ s in
+        let its : scope (work H e.call_no) ≡ Held k = ap (λ j. scope (work H j)) mine ∙ s in
         let u = own_inside H e k l (λ none. some (sym mine ∙ none)) its in
         subst (λ j. Lines InLine (Heard e ∷ H) j k) mine (lines_own InLine H e k l its u (answered H e k l its u (subst (λ j. Lines InLine H j k) (sym mine) m)))
 
@@ -179,10 +179,10 @@ lines (Heard e ∷ H) n k l some s = by (same_or_not e.call_no n) (lines H n k l
     by (inr apart) m = lines_beside InLine H e n k l s (other_number e.call_no n apart) late_line m
 lines (Entered client m op ∷ H) n k l some s = by (same_or_not n m) (lines H n k l.0 some)
   where
-    by : (n ≡ m) ⊎ (n ≢ m) → (scope (work H n) ≡ Tx k → Lines InLine H n k) → Lines InLine (Entered client m op ∷ H) n k
+    by : (n ≡ m) ⊎ (n ≢ m) → (scope (work H n) ≡ Held k → Lines InLine H n k) → Lines InLine (Entered client m op ∷ H) n k
     by (inl same) earlier = subst (λ j. Lines InLine (Entered client m op ∷ H) j k) (sym same) (lines_entered H client m op k l (λ none. some (same ∙ none)))
     by (inr apart) earlier =
-        let was : scope (work H n) ≡ Tx k = ap scope (sym (old_work H client m op n (enters_next H client m op l.1) apart)) ∙ s in
+        let was : scope (work H n) ≡ Held k = ap scope (sym (old_work H client m op n (enters_next H client m op l.1) apart)) ∙ s in
         lines_on H (Entered client m op) n k l refl was (earlier was)
 lines (e ∷ H) n k l some s = lines_on H e n k l refl s (lines H n k l.0 some s)
 
@@ -193,16 +193,16 @@ record InsideOnce (H : List Event) (n k : ℕ) : Type 0 where
   begun : 1 ≤ carried_out H n → is_begun H k ≡ true
   ran : 1 ≤ carried_out H n → Lines Ran H n k
 
-still_tidies : (H : List Event) (e : Entry) (k : ℕ) → scope (work H e.call_no) ≡ Tx k → OwnInside H e k → Lines Ran H e.call_no k → tidies e.call ≡ true
+still_tidies : (H : List Event) (e : Entry) (k : ℕ) → scope (work H e.call_no) ≡ Held k → OwnInside H e k → Lines Ran H e.call_no k → tidies e.call ≡ true
 still_tidies H e k s u m =
     let asked = asked_by H e.call_no in
     ran_sends (caps H) (went_bad (journal H e.conn)) asked.text asked.params (work H e.call_no) k (line_made H e.conn e.tenure e.call_no) e.call s (m e.conn e.tenure u.owner u.lent u.number) u.due
 
-none_before : (H : List Event) (e : Entry) (k : ℕ) → Lawful (Heard e ∷ H) → e.call_no ≢ 0 → scope (work H e.call_no) ≡ Tx k → InsideOnce H e.call_no k → is_statement e.call ≡ true → carried_out H e.call_no ≡ 0
+none_before : (H : List Event) (e : Entry) (k : ℕ) → Lawful (Heard e ∷ H) → e.call_no ≢ 0 → scope (work H e.call_no) ≡ Held k → InsideOnce H e.call_no k → is_statement e.call ≡ true → carried_out H e.call_no ≡ 0
 none_before H e k l some s o statement =
     zero_or (carried_out H e.call_no) o.few (λ more. never (is_statement e.call) statement (tidy_states e.call (still_tidies H e k s (own_inside H e k l some s) (o.ran more))))
 
-inside_own : (H : List Event) (e : Entry) (k : ℕ) → Lawful (Heard e ∷ H) → e.call_no ≢ 0 → scope (work H e.call_no) ≡ Tx k → InsideOnce H e.call_no k → InsideOnce (Heard e ∷ H) e.call_no k
+inside_own : (H : List Event) (e : Entry) (k : ℕ) → Lawful (Heard e ∷ H) → e.call_no ≢ 0 → scope (work H e.call_no) ≡ Held k → InsideOnce H e.call_no k → InsideOnce (Heard e ∷ H) e.call_no k
 inside_own H e k l some s o = by (may_be_carried_out e) refl
   where
     n : ℕ
@@ -234,11 +234,11 @@ inside_own H e k l some s o = by (may_be_carried_out e) refl
               lines_own Ran H e k l s u (inl (tidy_over (caps H) (asked_by H n).aim (length (asked_by H n).params) made e.call e.answer (still_tidies H e k s u before)));
         }
 
-inside_heard : (H : List Event) (e : Entry) (n k : ℕ) → Lawful (Heard e ∷ H) → n ≢ 0 → scope (work H n) ≡ Tx k → InsideOnce H n k → InsideOnce (Heard e ∷ H) n k
+inside_heard : (H : List Event) (e : Entry) (n k : ℕ) → Lawful (Heard e ∷ H) → n ≢ 0 → scope (work H n) ≡ Held k → InsideOnce H n k → InsideOnce (Heard e ∷ H) n k
 inside_heard H e n k l some s o = by (same_or_not n e.call_no)
   where
     by : (n ≡ e.call_no) ⊎ (n ≢ e.call_no) → InsideOnce (Heard e ∷ H) n k
-    by (inl same) = subst (λ j. InsideOnce (Heard e ∷ H) j k) (sym same) (inside_own H e k l (λ none. some (same ∙ none)) (subst (λ j. scope (work H j) ≡ Tx k) same s) (subst (λ j. InsideOnce H j k) same o))
+    by (inl same) = subst (λ j. InsideOnce (Heard e ∷ H) j k) (sym same) (inside_own H e k l (λ none. some (same ∙ none)) (subst (λ j. scope (work H j) ≡ Held k) same s) (subst (λ j. InsideOnce H j k) same o))
     by (inr apart) =
         let same = count_other H e n apart in
         record {
@@ -248,7 +248,7 @@ inside_heard H e n k l some s o = by (same_or_not n e.call_no)
         }
 
 -- Every other event keeps this, because a begun transaction is lent no other connection.
-inside_on : (H : List Event) (e : Event) (n k : ℕ) → Lawful (e ∷ H) → is_answer e ≡ false → n ≢ 0 → carried_out (e ∷ H) n ≡ carried_out H n → (scope (work H n) ≡ Tx k → InsideOnce H n k) → scope (work (e ∷ H) n) ≡ Tx k → InsideOnce (e ∷ H) n k
+inside_on : (H : List Event) (e : Event) (n k : ℕ) → Lawful (e ∷ H) → is_answer e ≡ false → n ≢ 0 → carried_out (e ∷ H) n ≡ carried_out H n → (scope (work H n) ≡ Held k → InsideOnce H n k) → scope (work (e ∷ H) n) ≡ Held k → InsideOnce (e ∷ H) n k
 inside_on H e n k l quiet some counted earlier s = by (nat_case (carried_out H n))
   where
     lends : is_begun H k ≡ true → (c t : ℕ) (own : Owner) → number_of own ≡ k → Lends e c t own → Ran (caps (e ∷ H)) (asked_by (e ∷ H) n).aim (length (asked_by (e ∷ H) n).params) (line_made (e ∷ H) c t n)
@@ -258,7 +258,7 @@ inside_on H e n k l quiet some counted earlier s = by (nat_case (carried_out H n
     by (inl none) = record { few = omega (arith, counted, none); begun = λ out. absurd (omega (arith, counted, none, out)); ran = λ out. absurd (omega (arith, counted, none, out)) }
     by (inr more) =
         let busy = states_busy (work H n) (carried_states H n l.0 some more) in
-        let was : scope (work H n) ≡ Tx k = ap scope (sym (work_stays H e n busy)) ∙ s in
+        let was : scope (work H n) ≡ Held k = ap scope (sym (work_stays H e n busy)) ∙ s in
         let o = earlier was in
         record {
           few = let had = o.few in omega (arith, counted, had);
@@ -266,13 +266,13 @@ inside_on H e n k l quiet some counted earlier s = by (nat_case (carried_out H n
           ran = λ out. lines_quiet Ran H e n k l quiet was (lends (o.begun more)) (o.ran more);
         }
 
-inside_once : (H : List Event) (n k : ℕ) → Lawful H → n ≢ 0 → scope (work H n) ≡ Tx k → InsideOnce H n k
+inside_once : (H : List Event) (n k : ℕ) → Lawful H → n ≢ 0 → scope (work H n) ≡ Held k → InsideOnce H n k
 inside_once [] n k l some s = record { few = omega arith; begun = λ out. absurd (omega (arith, out)); ran = λ out. absurd (omega (arith, out)) }
 inside_once (Heard e ∷ H) n k l some s = inside_heard H e n k l some s (inside_once H n k l.0 some s)
 inside_once (e ∷ H) n k l some s = inside_on H e n k l refl some refl (inside_once H n k l.0 some) s
 
-pub carried_inside : (H : List Event) (n k : ℕ) → Lawful H → n ≢ 0 → scope (work H n) ≡ Tx k → carried_out H n ≤ 1
+pub carried_inside : (H : List Event) (n k : ℕ) → Lawful H → n ≢ 0 → scope (work H n) ≡ Held k → carried_out H n ≤ 1
 carried_inside H n k l some s = let o = inside_once H n k l some s in o.few
 
-pub sent_inside : (H : List Event) (e : Entry) (k : ℕ) → Lawful (Heard e ∷ H) → e.call_no ≢ 0 → is_statement e.call ≡ true → scope (work H e.call_no) ≡ Tx k → carried_out H e.call_no ≡ 0
+pub sent_inside : (H : List Event) (e : Entry) (k : ℕ) → Lawful (Heard e ∷ H) → e.call_no ≢ 0 → is_statement e.call ≡ true → scope (work H e.call_no) ≡ Held k → carried_out H e.call_no ≡ 0
 sent_inside H e k l some statement s = none_before H e k l some s (inside_once H e.call_no k l.0 some s) statement

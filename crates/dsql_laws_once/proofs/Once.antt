@@ -11,7 +11,8 @@ use Rattle.dsql_laws_calls.specs.history.declared.event.Event.{Event}
 use Rattle.dsql_laws_calls.specs.history.declared.event.Event.TheVariants.{Heard}
 use Rattle.dsql_laws_calls.specs.history.declared.work.Scope.TheVariants.{Db}
 use Rattle.dsql_laws_calls.specs.history.declared.work.Work.{Work}
-use Rattle.dsql_laws_calls.specs.history.declared.work.Work.TheVariants.{Execute, HandOut, Ping}
+use Rattle.dsql_laws_calls.specs.history.declared.work.Task.TheVariants.{Execute, HandOut}
+use Rattle.dsql_laws_calls.specs.history.declared.work.Work.TheVariants.{Statement, Ping}
 use Rattle.dsql_laws_calls.specs.history.Readers.Calls.{decided}
 use Rattle.dsql_laws_calls.specs.history.Readers.Course.{caps}
 use Rattle.dsql_laws_calls.specs.history.Readers.Journals.{heard_in}
@@ -33,26 +34,26 @@ nat_case (suc k) = inr (omega arith)
 
 -- Is true if the work is on the database and doesn't read one row.
 abbrev pub works_alone : Work → Bool
-works_alone (Execute Db) = true
-works_alone (HandOut Db label) = true
+works_alone (Statement Db Execute) = true
+works_alone (Statement Db (HandOut label)) = true
 works_alone Ping = true
 works_alone _ = false
 
 alone_asks : (w : Work) → works_alone w ≡ true → asks w ≡ true
-alone_asks (Execute Db) h = refl
-alone_asks (HandOut Db label) h = refl
+alone_asks (Statement Db Execute) h = refl
+alone_asks (Statement Db (HandOut label)) h = refl
 alone_asks Ping h = refl
 alone_asks w h = absurd cc
 
 alone_unbegun : (w : Work) → works_alone w ≡ true → begins w ≡ false
-alone_unbegun (Execute Db) h = refl
-alone_unbegun (HandOut Db label) h = refl
+alone_unbegun (Statement Db Execute) h = refl
+alone_unbegun (Statement Db (HandOut label)) h = refl
 alone_unbegun Ping h = refl
 alone_unbegun w h = absurd cc
 
 alone_reads : (w : Work) → works_alone w ≡ true → reads_one w ≡ false
-alone_reads (Execute Db) h = refl
-alone_reads (HandOut Db label) h = refl
+alone_reads (Statement Db Execute) h = refl
+alone_reads (Statement Db (HandOut label)) h = refl
 alone_reads Ping h = refl
 alone_reads w h = absurd cc
 

@@ -23,7 +23,7 @@ use Rattle.dsql_laws_calls.specs.works.declared.work.Aim.TheVariants as aims
 use Rattle.dsql_laws_calls.specs.works.Exchanges.{got_of, step_of, with_exchange}
 use Rattle.dsql_laws_calls.specs.works.Line.{Asked, handed, sent_as, sent_over, body_after, body_with}
 use Rattle.dsql_laws_calls.proofs.laws_work.MadeLines.{asking, has_text}
-use Rattle.dsql_laws_calls.specs.history.declared.work.Scope.TheVariants.{Tx}
+use Rattle.dsql_laws_calls.specs.history.declared.work.Scope.TheVariants.{Held}
 use Rattle.dsql_laws_calls.specs.history.declared.work.Work.{Work}
 use Rattle.dsql_laws_calls.specs.history.Readers.Works.{aim_of, scope}
 use Rattle.dsql_laws_calls.specs.history.Rules.Line.{is_due}
@@ -104,7 +104,7 @@ ran_next can bad text params aim made x (inl o) = over_next can bad text params 
 ran_next can bad text params aim made x (inr (one, inl y)) = rw (one, y.is, fourth_text can bad text params y.rows y.fast) refl
 ran_next can bad text params aim made x (inr (one, inr y)) = rw (one, y.is, fourth_handle can bad text params y.rows y.run y.handle y.inputs y.rest y.before) refl
 
-pub ran_sends : (can : Caps) (bad : Bool) (text : List ℕ) (params : List Param) (it : Work) (k : ℕ) (made : List Exchange) (q : DriverCall) → scope it ≡ Tx k → Ran can (aim_of it) (length params) made
+pub ran_sends : (can : Caps) (bad : Bool) (text : List ℕ) (params : List Param) (it : Work) (k : ℕ) (made : List Exchange) (q : DriverCall) → scope it ≡ Held k → Ran can (aim_of it) (length params) made
     → is_due (body_after (untested can) bad (asking text params (aim_of it)) wishes.Nothing made) q ≡ true → tidies q ≡ true
 ran_sends can bad text params it k made q s r h = by (handed (aim_of it) made) h
   where
@@ -123,7 +123,7 @@ ran_sends can bad text params it k made q s r h = by (handed (aim_of it) made) h
 
 -- Answers to the call itself.
 
-pub line_on : (can : Caps) (bad : Bool) (text : List ℕ) (params : List Param) (it : Work) (k : ℕ) (made : List Exchange) (q : DriverCall) (a : DriverAnswer) → scope it ≡ Tx k → InLine can (aim_of it) (length params) made
+pub line_on : (can : Caps) (bad : Bool) (text : List ℕ) (params : List Param) (it : Work) (k : ℕ) (made : List Exchange) (q : DriverCall) (a : DriverAnswer) → scope it ≡ Held k → InLine can (aim_of it) (length params) made
     → is_due (body_after (untested can) bad (asking text params (aim_of it)) wishes.Nothing made) q ≡ true → fits_of q a ≡ true → is_memory a ≡ false → InLine can (aim_of it) (length params) (with_exchange (step_of q) a made)
 line_on can bad text params it k made q a s (inr o) h fit heard = inr (tidy_over can (aim_of it) (length params) made q a (ran_sends can bad text params it k made q s (inl o) h))
 line_on can bad text params it k made q a s (inl w) h fit heard = by (own_outcome 0 can bad text params it k made q a None s (inl w) h fit heard)

@@ -26,7 +26,8 @@ use Rattle.dsql_laws_replies.proofs.Awaited.{awaits_after}
 use Rattle.dsql_laws_calls.specs.history.declared.reply.Reply.{Reply}
 use Rattle.dsql_laws_calls.specs.history.declared.work.Scope.TheVariants.{Db}
 use Rattle.dsql_laws_calls.specs.history.declared.work.Work.{Work}
-use Rattle.dsql_laws_calls.specs.history.declared.work.Work.TheVariants.{ReadOne}
+use Rattle.dsql_laws_calls.specs.history.declared.work.Task.TheVariants.{ReadOne}
+use Rattle.dsql_laws_calls.specs.history.declared.work.Work.TheVariants.{Statement}
 use Rattle.dsql_laws_calls.specs.history.Readers.Decisions.{decision, Trying}
 use Rattle.dsql_laws_calls.specs.history.Readers.Tries.{is_tried}
 use Rattle.dsql_laws_calls.specs.history.Readers.Works.{aim_of, asks}
@@ -38,15 +39,15 @@ use Rattle.dsql_laws_once.specs.Counted.{is_query, fetches_from}
 -- What the work of a call that reads one row on the database is.
 
 pub one_asks : (it : Work) → reads_one it ≡ true → asks it ≡ true
-one_asks (ReadOne Db dests) one = refl
+one_asks (Statement Db (ReadOne dests)) one = refl
 one_asks it one = absurd cc
 
 pub one_plain : (it : Work) → reads_one it ≡ true → begins it ≡ false
-one_plain (ReadOne Db dests) one = refl
+one_plain (Statement Db (ReadOne dests)) one = refl
 one_plain it one = absurd cc
 
 pub one_aim : (it : Work) → reads_one it ≡ true → aim_of it ≡ aims.ReadOne
-one_aim (ReadOne Db dests) one = refl
+one_aim (Statement Db (ReadOne dests)) one = refl
 one_aim it one = absurd cc
 
 -- Is true if the call may still send its `Prepare` or the fetch of its row.

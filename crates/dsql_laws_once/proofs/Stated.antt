@@ -28,7 +28,8 @@ use Rattle.dsql_laws_calls.specs.history.declared.event.Event.{Event}
 use Rattle.dsql_laws_calls.specs.history.declared.event.Event.TheVariants.{Entered, Heard}
 use Rattle.dsql_laws_calls.specs.history.declared.work.Scope.TheVariants.{Db}
 use Rattle.dsql_laws_calls.specs.history.declared.work.Work.{Work}
-use Rattle.dsql_laws_calls.specs.history.declared.work.Work.TheVariants.{Execute, ReadOne, HandOut, Begin, End, Ping, Fetch, Close, Look}
+use Rattle.dsql_laws_calls.specs.history.declared.work.Task.TheVariants.{HandOut}
+use Rattle.dsql_laws_calls.specs.history.declared.work.Work.TheVariants.{Statement, Begin, End, Ping, Fetch, Close, Look}
 use Rattle.dsql_laws_calls.specs.history.Readers.Course.{caps}
 use Rattle.dsql_laws_calls.specs.history.Readers.Journals.{heard_in, journal}
 use Rattle.dsql_laws_calls.specs.history.Readers.Lines.{line_among}
@@ -60,9 +61,7 @@ use Rattle.dsql_laws_once.specs.Once.{is_statement, is_skip, may_be_carried_out,
 
 -- Is true if the work runs a text or pings.
 abbrev pub states : Work → Bool
-states (Execute it) = true
-states (ReadOne it dests) = true
-states (HandOut it label) = true
+states (Statement it task) = true
 states Ping = true
 states _ = false
 
@@ -147,7 +146,7 @@ begin_quiet H e l begin =
     stepless_quiet e.call (due_steps (line_there H e.conn e.tenure w.owner (number_of w.owner) wishes.Nothing) e.call line w.due)
 
 handing : (w : Work) → hands_out w ≡ true → aim_of w ≡ aims.HandOut
-handing (HandOut scope label) h = refl
+handing (Statement scope (HandOut label)) h = refl
 handing w h = absurd cc
 
 -- On the rows of a call on the database neither is sent.

@@ -14,9 +14,10 @@ use Rattle.dsql_laws_calls.specs.course.declared.course.Wish.{Wish}
 use Rattle.dsql_laws_calls.specs.course.declared.course.Wish.TheVariants as wishes
 use Rattle.dsql_laws_calls.specs.course.Made.{Exchange}
 use Rattle.dsql_laws_calls.specs.history.declared.reply.Reply.{Reply}
-use Rattle.dsql_laws_calls.specs.history.declared.work.Scope.TheVariants.{Db, Tx}
+use Rattle.dsql_laws_calls.specs.history.declared.work.Scope.TheVariants.{Db, Held}
 use Rattle.dsql_laws_calls.specs.history.declared.work.Work.{Work}
-use Rattle.dsql_laws_calls.specs.history.declared.work.Work.TheVariants.{ReadOne, HandOut}
+use Rattle.dsql_laws_calls.specs.history.declared.work.Task.TheVariants.{ReadOne, HandOut}
+use Rattle.dsql_laws_calls.specs.history.declared.work.Work.TheVariants.{Statement}
 use Rattle.dsql_laws_calls.specs.history.Readers.Decisions.{decision, Trying}
 use Rattle.dsql_laws_calls.specs.history.Readers.Tries.{is_tried}
 use Rattle.dsql_laws_calls.specs.history.Readers.Works.{aim_of, asks}
@@ -83,9 +84,9 @@ misfit fit memory h k = grind (arith, h, k)
 
 handed_decides : (t : Trying) (it : Work) (rows : ℕ) (columns : List (List ℕ)) (q : DriverCall) (d : Option Reply) → asks it ≡ true → reads_one it ≡ false → queries_it (aim_of it) ≡ true → (input : Input) (params : List Param)
     → is_some (decision (record t { work = it }) (Query input params) (Cursor rows columns) d) ≡ true
-handed_decides t (HandOut s label) rows columns q d own one reads input params = refl
-handed_decides t (ReadOne Db dests) rows columns q d own one reads input params = absurd cc
-handed_decides t (ReadOne (Tx k) dests) rows columns q d own one reads input params = absurd cc
+handed_decides t (Statement s (HandOut label)) rows columns q d own one reads input params = refl
+handed_decides t (Statement Db (ReadOne dests)) rows columns q d own one reads input params = absurd cc
+handed_decides t (Statement (Held k) (ReadOne dests)) rows columns q d own one reads input params = absurd cc
 handed_decides t it rows columns q d own one reads input params = absurd cc
 
 pub carried_decides : (t : Trying) (can : Caps) (text : List ℕ) (params : List Param) (it : Work) (w : Wish) (s : Step) (made : List Exchange) (q : DriverCall) (a : DriverAnswer) (d : Option Reply) → asks it ≡ true → (opens_rows q a ≡ true → reads_one it ≡ false)
@@ -108,7 +109,7 @@ carried_decides t can text params it w s made (Query input ps) (Cursor rows colu
 carried_decides t can text params it w s made (Query input ps) (Fail why) d own one x h = failed it
   where
     failed : (jt : Work) → is_some (decision (record t { work = jt }) (Query input ps) (Fail why) d) ≡ true
-    failed (HandOut scope label) = refl
+    failed (Statement scope (HandOut label)) = refl
     failed jt = refl
 carried_decides t can text params it w s made (Query input ps) Bad d own one x h = absurd cc
 carried_decides t can text params it w s made (Query (Text u) ps) Skip d own one x h = absurd cc
@@ -140,8 +141,8 @@ late_only _ _ g h = absurd cc
 -- What is sent later leaves the reply settled, except a fetch of a call that reads one row.
 
 pub untried_next : (it : Work) (rows : ℕ) (a : DriverAnswer) → asks it ≡ true → reads_one it ≡ false → (is_tried it (Next rows) && is_bad a) ≡ false
-untried_next (ReadOne Db dests) rows a own one = absurd cc
-untried_next (ReadOne (Tx k) dests) rows a own one = absurd cc
+untried_next (Statement Db (ReadOne dests)) rows a own one = absurd cc
+untried_next (Statement (Held k) (ReadOne dests)) rows a own one = absurd cc
 untried_next it rows a own one = refl
 
 pub stays_decided : (t : Trying) (can : Caps) (text : List ℕ) (params : List Param) (it : Work) (w : Wish) (s : Step) (made : List Exchange) (q : DriverCall) (a : DriverAnswer) (d : Option Reply) → asks it ≡ true → begins it ≡ false

@@ -10,7 +10,8 @@ use Rattle.dsql_laws_calls.specs.history.declared.event.Event.{Event}
 use Rattle.dsql_laws_calls.specs.history.declared.event.Event.TheVariants.{Heard}
 use Rattle.dsql_laws_calls.specs.history.declared.work.Scope.TheVariants.{Db}
 use Rattle.dsql_laws_calls.specs.history.declared.work.Work.{Work}
-use Rattle.dsql_laws_calls.specs.history.declared.work.Work.TheVariants.{ReadOne}
+use Rattle.dsql_laws_calls.specs.history.declared.work.Task.TheVariants.{ReadOne}
+use Rattle.dsql_laws_calls.specs.history.declared.work.Work.TheVariants.{Statement}
 
 -- Is true if the driver call is a statement or a ping.
 abbrev pub is_statement : DriverCall → Bool
@@ -39,5 +40,5 @@ carried_out (_ ∷ before) n = carried_out before n
 -- Is true if the work reads one row itself, on the database. In a transaction a call has one try, whatever it
 -- reads.
 abbrev pub reads_one : Work → Bool
-reads_one (ReadOne Db dests) = true
+reads_one (Statement Db (ReadOne dests)) = true
 reads_one work = false

@@ -27,9 +27,9 @@ use Rattle.dsql_laws_calls.specs.history.declared.event.Event.TheVariants.{Repli
 use Rattle.dsql_laws_calls.specs.history.declared.reply.Reply.{Reply}
 use Rattle.dsql_laws_calls.specs.history.declared.record.CallRecord.{CallRecord}
 use Rattle.dsql_laws_calls.specs.history.declared.work.Scope.{Scope}
-use Rattle.dsql_laws_calls.specs.history.declared.work.Scope.TheVariants.{Db, Tx}
+use Rattle.dsql_laws_calls.specs.history.declared.work.Scope.TheVariants.{Db, Held}
 use Rattle.dsql_laws_calls.specs.history.declared.work.Work.{Work}
-use Rattle.dsql_laws_calls.specs.history.declared.work.Work.TheVariants.{Execute, ReadOne, HandOut, Begin, End, Ping, Fetch, Close, Look}
+use Rattle.dsql_laws_calls.specs.history.declared.work.Work.TheVariants.{Statement, Begin, End, Ping, Fetch, Close, Look}
 use Rattle.dsql_laws_calls.specs.history.Readers.Course.{caps}
 use Rattle.dsql_laws_calls.specs.history.Readers.Journals.{journal, heard_in}
 use Rattle.dsql_laws_calls.specs.history.Readers.Lines.{line_in}
@@ -89,11 +89,11 @@ closes_alike H K m k a its =
 in_time : (x late a b : Bool) → late ≡ false → (x && (not late || a)) ≡ (x && (not late || b))
 in_time x late a b is = rw is refl
 
-pub late_scope : (H : List Event) (s : Scope) → is_late H s ≡ true → (j : ℕ) × (s ≡ Tx j)
+pub late_scope : (H : List Event) (s : Scope) → is_late H s ≡ true → (j : ℕ) × (s ≡ Held j)
 late_scope H Db h = absurd cc
-late_scope H (Tx j) h = (j, refl)
+late_scope H (Held j) h = (j, refl)
 
-rows_uses : (H : List Event) (m k j : ℕ) → (work H m ≡ Fetch k) ⊎ (work H m ≡ Close k) → scope (work H k) ≡ Tx j → borrower H m ≡ j
+rows_uses : (H : List Event) (m k j : ℕ) → (work H m ≡ Fetch k) ⊎ (work H m ≡ Close k) → scope (work H k) ≡ Held j → borrower H m ≡ j
 rows_uses H m k j (inl is) s = rw (is, s) refl
 rows_uses H m k j (inr is) s = rw (is, s) refl
 
@@ -118,9 +118,9 @@ none_anyway false d h = refl
 
 inside_alike : (H K : List Event) (m : ℕ) (s : Scope) → Alike H K m → due_inside K m s ≡ due_inside H m s
 inside_alike H K m Db a = a.lines m wishes.Nothing (inl refl)
-inside_alike H K m (Tx k) a = by a.sent
+inside_alike H K m (Held k) a = by a.sent
   where
-    by : (has_begun_to_send K m ≡ has_begun_to_send H m) ⊎ ((n : ℕ) (w : Wish) → borrower H n ≡ borrower H m → line_of H n w ≡ None) → due_inside K m (Tx k) ≡ due_inside H m (Tx k)
+    by : (has_begun_to_send K m ≡ has_begun_to_send H m) ⊎ ((n : ℕ) (w : Wish) → borrower H n ≡ borrower H m → line_of H n w ≡ None) → due_inside K m (Held k) ≡ due_inside H m (Held k)
     by (inl same) =
         ap (λ b. cond (b || (goes_on K k && is_none (decided K m))) (line_of K m wishes.Nothing) None) same
         ∙ (ap (λ b. cond (has_begun_to_send H m || (b && is_none (decided K m))) (line_of K m wishes.Nothing) None) (a.going k)
@@ -135,9 +135,7 @@ in_alike H K m (Fetch k) is a = over_alike H K m k (inl is) a
 in_alike H K m (Close k) is a = over_alike H K m k (inr is) a
 in_alike H K m (End k) is a = ap (λ e. cond (e == m) (ending K k) None) (a.tx_enders k) ∙ ap (λ d. cond (tx_ender H k == m) d None) (a.endings k)
 in_alike H K m Look is a = refl
-in_alike H K m (Execute s) is a = inside_alike H K m s a
-in_alike H K m (ReadOne s dests) is a = inside_alike H K m s a
-in_alike H K m (HandOut s label) is a = inside_alike H K m s a
+in_alike H K m (Statement s task) is a = inside_alike H K m s a
 in_alike H K m (Begin label level read_only) is a = inside_alike H K m Db a
 in_alike H K m Ping is a = inside_alike H K m Db a
 

@@ -28,7 +28,7 @@ use Rattle.dsql_laws_calls.specs.history.declared.event.Event.{Event}
 use Rattle.dsql_laws_calls.specs.history.declared.event.Event.TheVariants.{Entered}
 use Rattle.dsql_laws_calls.specs.history.declared.event.Op.TheVariants.{DbClose}
 use Rattle.dsql_laws_calls.specs.history.declared.reply.Reply.TheVariants.{DbClosed}
-use Rattle.dsql_laws_calls.specs.history.declared.work.Scope.TheVariants.{Tx}
+use Rattle.dsql_laws_calls.specs.history.declared.work.Scope.TheVariants.{Held}
 use Rattle.dsql_laws_calls.specs.history.declared.work.Work.{Work}
 use Rattle.dsql_laws_calls.specs.history.Readers.Calls.{call_record, decided, done_with, has_begun_to_send, last_told, rests, rests_with, told_by_others, told_by_tries, told_by_scope, told_of_work}
 use Rattle.dsql_laws_calls.specs.history.Readers.Course.{db_end, or_end}
@@ -169,7 +169,7 @@ told_shut H client n m it l apart h = told_each H (closes_it H client n) m it tr
         of true i = some_close (or_end (db_end H) ends.Close) (ended_by_now (db_end H) ends.Close)
         of false i = i
 
-    inner : (v : Work) (k : ℕ) → is_some (told_by_scope H m v (Tx k)) ≡ true → is_some (told_by_scope (closes_it H client n) m v (Tx k)) ≡ true
+    inner : (v : Work) (k : ℕ) → is_some (told_by_scope H m v (Held k)) ≡ true → is_some (told_by_scope (closes_it H client n) m v (Held k)) ≡ true
     inner v k i = of (has_begun_to_send K m) (has_begun_to_send H m) (shut_sent H (Entered client n DbClose) m (shuts H client n l) (other_stays H client n m l apart)) i
       where
         of : (now was : Bool) → (now ≡ true → was ≡ true) → is_some (cond was None (done_with (tx_end H k))) ≡ true → is_some (cond now None (done_with (tx_end H k))) ≡ true

@@ -23,9 +23,10 @@ use Rattle.dsql_laws_calls.specs.history.declared.event.Event.{Event}
 use Rattle.dsql_laws_calls.specs.history.declared.event.Event.TheVariants.{Entered, Heard, Replied}
 use Rattle.dsql_laws_calls.specs.history.declared.event.Op.TheVariants as ops
 use Rattle.dsql_laws_calls.specs.history.declared.reply.Reply.TheVariants as reply
-use Rattle.dsql_laws_calls.specs.history.declared.work.Scope.TheVariants.{Tx}
+use Rattle.dsql_laws_calls.specs.history.declared.work.Scope.TheVariants.{Held}
 use Rattle.dsql_laws_calls.specs.history.declared.work.Work.{Work}
-use Rattle.dsql_laws_calls.specs.history.declared.work.Work.TheVariants.{HandOut, Fetch, Close, Look}
+use Rattle.dsql_laws_calls.specs.history.declared.work.Task.TheVariants.{HandOut}
+use Rattle.dsql_laws_calls.specs.history.declared.work.Work.TheVariants.{Statement, Fetch, Close, Look}
 use Rattle.dsql_laws_calls.specs.history.Readers.Calls.{calls, call_record, decided, nobody, told_at_entry}
 use Rattle.dsql_laws_calls.specs.history.Readers.Decisions.{rows_reply}
 use Rattle.dsql_laws_calls.specs.history.Readers.Journals.{journal}
@@ -101,7 +102,7 @@ no_reply : (o : Option Rows) (label : List ℕ) → live o ≡ true → rows_rep
 no_reply None label h = absurd cc
 no_reply (Some r) label h = ap (λ (b : Bool). cond b None (Some reply.Ok)) h
 
-closing_now : (H : List Event) (client n : ℕ) (label : List ℕ) (j k : ℕ) → Lawful (Entered client n (ops.RowsClose label) ∷ H) → scope (work H j) ≡ Tx k → are_live H j ≡ true → are_live (Entered client n (ops.RowsClose label) ∷ H) j ≡ false
+closing_now : (H : List Event) (client n : ℕ) (label : List ℕ) (j k : ℕ) → Lawful (Entered client n (ops.RowsClose label) ∷ H) → scope (work H j) ≡ Held k → are_live H j ≡ true → are_live (Entered client n (ops.RowsClose label) ∷ H) j ≡ false
     → Closer (Entered client n (ops.RowsClose label) ∷ H) j n k
 closing_now H client n label j k l inner lives dead = by (close_turn H label j)
   where
@@ -115,7 +116,7 @@ closing_now H client n label j k l inner lives dead = by (close_turn H label j)
         let new = enters_next H client n (ops.RowsClose label) l.1 in
         let its : work K n ≡ Close j = new_work H client n (ops.RowsClose label) new ∙ ap Close (sym c.maker) in
         let old : j ≢ n = older in
-        let within : scope (work K j) ≡ Tx k = ap scope (old_work H client n (ops.RowsClose label) j new old) ∙ inner in
+        let within : scope (work K j) ≡ Held k = ap scope (old_work H client n (ops.RowsClose label) j new old) ∙ inner in
         record {
           uses = rw (its, within) refl;
           sent = inr (ap (λ r. r.decided) (new_record H client n (ops.RowsClose label) new) ∙ told, its);
@@ -134,14 +135,14 @@ closing_now H client n label j k l inner lives dead = by (close_turn H label j)
             ap (λ b. rows_reply (cond b None (rows_by H (rows_maker (works H) label))) (ops.RowsClose label)) c.replied
             ∙ (ap (λ i. rows_reply (rows_by H i) (ops.RowsClose label)) (sym c.maker) ∙ no_reply (rows_by H j) label lives)
 
-ending_now : (H : List Event) (tx : List ℕ) (by : TxEnd) (j k : ℕ) → Lawful H → scope (work H j) ≡ Tx k → are_live H j ≡ true → live (rows_of j (ended_with H tx (handed_out H))) ≡ false
+ending_now : (H : List Event) (tx : List ℕ) (by : TxEnd) (j k : ℕ) → Lawful H → scope (work H j) ≡ Held k → are_live H j ≡ true → live (rows_of j (ended_with H tx (handed_out H))) ≡ false
     → is_some (end_of (thing_of k (ends_as H tx by (transactions H)))) ≡ false → ⊥
 ending_now H tx by j k l inner lives dead on = at (end_turn H tx j)
   where
-    scoped : (w : Work) (i : ℕ) → hands_out_in i w ≡ true → scope w ≡ Tx k → k ≡ i
-    scoped (HandOut (Tx x) label) i h s = number s ∙ same_number x i h
+    scoped : (w : Work) (i : ℕ) → hands_out_in i w ≡ true → scope w ≡ Held k → k ≡ i
+    scoped (Statement (Held x) (HandOut label)) i h s = number s ∙ same_number x i h
       where
-        number : Tx x ≡ Tx k → k ≡ x
+        number : Held x ≡ Held k → k ≡ x
         number y = cc
     scoped w i h s = absurd cc
 
@@ -156,7 +157,7 @@ ending_now H tx by j k l inner lives dead on = at (end_turn H tx j)
 
 -- Only a fetch that gets no row ends rows by an answer.
 fetches : (H : List Event) (it : Work) (m : ℕ) (q : DriverCall) (a : DriverAnswer) (j : ℕ) (R : Made) → live (rows_of j R) ≡ true → live (rows_of j (rows_heard H it m q a R)) ≡ false → it ≡ Fetch j
-fetches H (HandOut s label) m (Query input params) (Cursor cursor columns) j R lives dead = absurd (true_false (live (rows_of j (R ++ (m, born (is_late H s) (fresh cursor columns)) ∷ []))) (more R lives) dead)
+fetches H (Statement s (HandOut label)) m (Query input params) (Cursor cursor columns) j R lives dead = absurd (true_false (live (rows_of j (R ++ (m, born (is_late H s) (fresh cursor columns)) ∷ []))) (more R lives) dead)
   where
     more : (S : Made) → live (rows_of j S) ≡ true → live (rows_of j (S ++ (m, born (is_late H s) (fresh cursor columns)) ∷ [])) ≡ true
     more [] h = absurd cc
@@ -173,14 +174,14 @@ fetches H (Fetch i) m (Next cursor) a j R lives dead = by (same_or_not j i)
     by (inr apart) = let l = rows_changes in absurd (true_false (live (rows_of j R)) lives (sym (ap live (l.others (fetched a) i j R apart)) ∙ dead))
 fetches H _ m q a j R lives dead = absurd (true_false (live (rows_of j R)) lives dead)
 
-fetching_now : (H : List Event) (e : Entry) (j k : ℕ) → Lawful (Heard e ∷ H) → e.call_no ≢ 0 → goes_on H k ≡ true → scope (work H j) ≡ Tx k → are_live H j ≡ true → are_live (Heard e ∷ H) j ≡ false → Closer (Heard e ∷ H) j e.call_no k
+fetching_now : (H : List Event) (e : Entry) (j k : ℕ) → Lawful (Heard e ∷ H) → e.call_no ≢ 0 → goes_on H k ≡ true → scope (work H j) ≡ Held k → are_live H j ≡ true → are_live (Heard e ∷ H) j ≡ false → Closer (Heard e ∷ H) j e.call_no k
 fetching_now H e j k l some going inner lives dead =
     let its = fetches H (work H e.call_no) e.call_no e.call e.answer j (handed_out H) lives dead in
     let uses : borrower H e.call_no ≡ k = rw (its, inner) refl in
     let s = stays H (Heard e) k l going in
     record { uses = uses; sent = inl (ap (λ d. has_sent e.call_no (journal (Heard e ∷ H) d)) s.same ∙ sends_there H e k l some uses) }
 
-ends_now : (H : List Event) (e : Event) (j k : ℕ) → Lawful (e ∷ H) → caller e ≢ 0 → goes_on H k ≡ true → is_over (e ∷ H) k ≡ false → scope (work H j) ≡ Tx k → are_live H j ≡ true → are_live (e ∷ H) j ≡ false → Closer (e ∷ H) j (caller e) k
+ends_now : (H : List Event) (e : Event) (j k : ℕ) → Lawful (e ∷ H) → caller e ≢ 0 → goes_on H k ≡ true → is_over (e ∷ H) k ≡ false → scope (work H j) ≡ Held k → are_live H j ≡ true → are_live (e ∷ H) j ≡ false → Closer (e ∷ H) j (caller e) k
 ends_now H (Entered client n (ops.RowsClose label)) j k l some going on inner lives dead = closing_now H client n label j k l inner lives dead
 ends_now H (Entered client n (ops.Commit tx)) j k l some going on inner lives dead = absurd (ending_now H tx tx_ends.Commit j k l.0 inner lives dead on)
 ends_now H (Entered client n (ops.Rollback tx)) j k l some going on inner lives dead = absurd (ending_now H tx tx_ends.Rollback j k l.0 inner lives dead on)
@@ -234,14 +235,14 @@ stays_closer H e j m k l some going c =
     ]
 
 -- Rows in a transaction are rows of a transaction that was begun.
-rows_in : (H : List Event) (j k : ℕ) → Lawful H → is_some (rows_by H j) ≡ true → scope (work H j) ≡ Tx k → is_begun H k ≡ true
+rows_in : (H : List Event) (j k : ℕ) → Lawful H → is_some (rows_by H j) ≡ true → scope (work H j) ≡ Held k → is_begun H k ≡ true
 rows_in H j k l made inner = rows_begun H j k l made (hands (work H j) (rows_hand_out H j made) inner)
   where
-    hands : (w : Work) → hands_out w ≡ true → scope w ≡ Tx k → hands_out_in k w ≡ true
-    hands (HandOut s label) x y = ap (is_in k) y ∙ same_itself k
+    hands : (w : Work) → hands_out w ≡ true → scope w ≡ Held k → hands_out_in k w ≡ true
+    hands (Statement s (HandOut label)) x y = ap (is_in k) y ∙ same_itself k
     hands w x y = absurd cc
 
-pub closers : (H : List Event) (j m k : ℕ) → Lawful H → scope (work H j) ≡ Tx k → goes_on H k ≡ true → m ≢ 0 → ender H j ≡ m → Closer H j m k
+pub closers : (H : List Event) (j m k : ℕ) → Lawful H → scope (work H j) ≡ Held k → goes_on H k ≡ true → m ≢ 0 → ender H j ≡ m → Closer H j m k
 closers [] j m k l inner going some is = absurd (some (sym is))
 closers (e ∷ H) j m k l inner going some is = by (closers H j m k l.0) (are_live H j) (are_live (e ∷ H) j) refl refl is
   where
@@ -252,17 +253,17 @@ closers (e ∷ H) j m k l inner going some is = by (closers H j m k l.0) (are_li
         off true h = absurd cc
         off false h = refl
 
-    went_on : is_some (rows_by H j) ≡ true → scope (work H j) ≡ Tx k → goes_on H k ≡ true
+    went_on : is_some (rows_by H j) ≡ true → scope (work H j) ≡ Held k → goes_on H k ≡ true
     went_on made within = ap (λ b. b && not (is_over H k)) (rows_in H j k l.0 made within) ∙ ap (λ b. not b) (still_on (is_over H k) refl)
       where
         still_on : (b : Bool) → is_over H k ≡ b → b ≡ false
         still_on true gone = absurd (true_false (is_over (e ∷ H) k) (stays_over H e k gone) on)
         still_on false gone = refl
 
-    before : is_some (rows_by H j) ≡ true → scope (work H j) ≡ Tx k
+    before : is_some (rows_by H j) ≡ true → scope (work H j) ≡ Held k
     before made = ap scope (sym (works_of.work_stays H e j (hands_no_look (work H j) (rows_hand_out H j made)))) ∙ inner
 
-    by : (scope (work H j) ≡ Tx k → goes_on H k ≡ true → m ≢ 0 → ender H j ≡ m → Closer H j m k) → (b c : Bool) → are_live H j ≡ b → are_live (e ∷ H) j ≡ c → cond b (ended_at e c) (ender H j) ≡ m → Closer (e ∷ H) j m k
+    by : (scope (work H j) ≡ Held k → goes_on H k ≡ true → m ≢ 0 → ender H j ≡ m → Closer H j m k) → (b c : Bool) → are_live H j ≡ b → are_live (e ∷ H) j ≡ c → cond b (ended_at e c) (ender H j) ≡ m → Closer (e ∷ H) j m k
     by earlier true true lives now x = absurd (some (sym x))
     by earlier true false lives now x =
         let made = live_some (rows_by H j) lives in

@@ -13,9 +13,10 @@ use Rattle.dsql_laws_calls.specs.history.Readers.HandedOut.{over, rows_by, are_l
 use Rattle.dsql_laws_calls.specs.history.Rules.Wishes.{wish_as}
 use Rattle.dsql_laws_calls.proofs.laws.Tests.{both, same_number, same_itself}
 use Rattle.dsql_laws_calls.specs.history.declared.event.Event.{Event}
-use Rattle.dsql_laws_calls.specs.history.declared.work.Scope.TheVariants.{Db, Tx}
+use Rattle.dsql_laws_calls.specs.history.declared.work.Scope.TheVariants.{Db, Held}
 use Rattle.dsql_laws_calls.specs.history.declared.work.Work.{Work}
-use Rattle.dsql_laws_calls.specs.history.declared.work.Work.TheVariants.{Execute, ReadOne, HandOut, End, Fetch, Close, Look}
+use Rattle.dsql_laws_calls.specs.history.declared.work.Task.TheVariants.{HandOut}
+use Rattle.dsql_laws_calls.specs.history.declared.work.Work.TheVariants.{Statement, End, Fetch, Close, Look}
 use Rattle.dsql_laws_calls.specs.history.Readers.Calls.{decided, site, has_begun_to_send}
 use Rattle.dsql_laws_calls.specs.history.Readers.Course.{caps}
 use Rattle.dsql_laws_calls.specs.history.Readers.Journals.{journal, heard_in}
@@ -61,10 +62,10 @@ pub live_keeps : (H : List Event) (j : ℕ) (own : Owner) → Lawful H → borro
 live_keeps H j own l uses lives = by (work H j) refl (rows_hand_out H j (live_some (rows_by H j) lives))
   where
     by : (it : Work) → work H j ≡ it → hands_out it ≡ true → is_used H (number_of own) ≡ true
-    by (HandOut Db label) is h =
+    by (Statement Db (HandOut label)) is h =
         let its : borrower H j ≡ j = rw is refl in
         ap (is_used H) (sym uses ∙ its) ∙ live_used H j lives
-    by (HandOut (Tx k) label) is h =
+    by (Statement (Held k) (HandOut label)) is h =
         let its : borrower H j ≡ k = rw is refl in
         ap (is_used H) (sym uses ∙ its) ∙ going_used H k (live_goes H j k l lives (ap (hands_out_in k) is ∙ same_itself k))
     by it is h = absurd cc
@@ -77,10 +78,10 @@ over_keeps H j c t own l at uses made gone line = by (work H j) refl (rows_hand_
     sends = line_number H j c t own l at uses wishes.Close line
 
     by : (it : Work) → work H j ≡ it → hands_out it ≡ true → is_used H (number_of own) ≡ true
-    by (HandOut Db label) is h =
+    by (Statement Db (HandOut label)) is h =
         let its : j ≡ number_of own = sym (rw is refl) ∙ uses in
         why_used H c t own (number_of own) l at (inr (inl (record { some = ap (λ i. is_some (rows_by H i)) (sym its) ∙ made; sends = ap (λ i. is_some (line_there H c t own i wishes.Close)) (sym its) ∙ sends })))
-    by (HandOut (Tx k) label) is h =
+    by (Statement (Held k) (HandOut label)) is h =
         let its : number_of own ≡ k = sym uses ∙ rw is refl in
         let hands : hands_out_in (number_of own) (work H j) ≡ true = ap (hands_out_in (number_of own)) is ∙ (ap (λ i. k == i) its ∙ same_itself k) in
         tx_used H c t own l at (record { begun = rows_begun H j (number_of own) l made hands; left = inr (inl (j, record { hands = hands; over = gone; sends = sends })) })
@@ -113,7 +114,7 @@ rows_keep H m j c t own l some at its uses sent = by (closes H m j) (is_fetch (w
 
 -- What a call sends in a transaction keeps the connection in use.
 
-inner_keeps : (H : List Event) (m c t : ℕ) (own : Owner) → Lawful H → place H c ≡ Some (Lent t own) → site H m ≡ c → is_unfinished H m ≡ true → scope (work H m) ≡ Tx (number_of own) → is_some (due_inside H m (Tx (number_of own))) ≡ true
+inner_keeps : (H : List Event) (m c t : ℕ) (own : Owner) → Lawful H → place H c ≡ Some (Lent t own) → site H m ≡ c → is_unfinished H m ≡ true → scope (work H m) ≡ Held (number_of own) → is_some (due_inside H m (Held (number_of own))) ≡ true
     → is_used H (number_of own) ≡ true
 inner_keeps H m c t own l at here u inner due = by (sends_in H m (number_of own)) (goes_on H (number_of own)) refl refl due
   where
@@ -150,11 +151,11 @@ inner_keeps H m c t own l at here u inner due = by (sends_in H m (number_of own)
         used left = tx_used H c t own l at (record { begun = begun; left = left })
 
         cursor : (w : Work) (xs : List Exchange) → is_some (handed (aim_of w) xs) ≡ true → is_some (own_cursor xs) ≡ true
-        cursor (HandOut s label) xs x = x
+        cursor (Statement s (HandOut label)) xs x = x
         cursor w xs x = absurd cc
 
-        hands_in : (w : Work) (j : ℕ) → hands_out w ≡ true → scope w ≡ Tx j → hands_out_in j w ≡ true
-        hands_in (HandOut s label) j x y = ap (is_in j) y ∙ same_itself j
+        hands_in : (w : Work) (j : ℕ) → hands_out w ≡ true → scope w ≡ Held j → hands_out_in j w ≡ true
+        hands_in (Statement s (HandOut label)) j x y = ap (is_in j) y ∙ same_itself j
         hands_in w j x y = absurd cc
 
         dead : is_some (rows_by H m) ≡ true → hands_out_in (number_of own) (work H m) ≡ true → (b : Bool) → are_live H m ≡ b → are_over H m ≡ true
@@ -199,10 +200,10 @@ due_keeps H m c t own l some at uses due = unfinished (is_unfinished H m) refl d
         let line = line_number H m c t own l at uses wishes.Nothing (due_own H m (work H m) asker x) in
         own_used H c t own l at (ap (is_unfinished H) (sym its) ∙ u) (ap (λ i. is_some (line_there H c t own i wishes.Nothing)) (sym its) ∙ line)
 
-    inner : (k : ℕ) → is_unfinished H m ≡ true → scope (work H m) ≡ Tx k → is_some (due_inside H m (Tx k)) ≡ true → is_used H (number_of own) ≡ true
+    inner : (k : ℕ) → is_unfinished H m ≡ true → scope (work H m) ≡ Held k → is_some (due_inside H m (Held k)) ≡ true → is_used H (number_of own) ≡ true
     inner k u s x =
         let its : k ≡ number_of own = sym (inside_uses H m k s) ∙ uses in
-        inner_keeps H m c t own l at here u (s ∙ ap Tx its) (ap (λ i. is_some (due_inside H m (Tx i))) (sym its) ∙ x)
+        inner_keeps H m c t own l at here u (s ∙ ap Held its) (ap (λ i. is_some (due_inside H m (Held i))) (sym its) ∙ x)
 
     ends : (k : ℕ) → work H m ≡ End k → (b : Bool) → is_some (cond b (ending H k) None) ≡ true → is_used H (number_of own) ≡ true
     ends k is true x =
@@ -212,9 +213,7 @@ due_keeps H m c t own l some at uses due = unfinished (is_unfinished H m) refl d
     ends k is false x = absurd cc
 
     by : is_unfinished H m ≡ true → (w : Work) → work H m ≡ w → is_some (due_in H m w) ≡ true → is_used H (number_of own) ≡ true
-    by u (Execute (Tx k)) is x = inner k u (ap scope is) x
-    by u (ReadOne (Tx k) dests) is x = inner k u (ap scope is) x
-    by u (HandOut (Tx k) label) is x = inner k u (ap scope is) x
+    by u (Statement (Held k) task) is x = inner k u (ap scope is) x
     by u (Fetch j) is x = rows_keep H m j c t own l some at (inl is) uses x
     by u (Close j) is x = rows_keep H m j c t own l some at (inr is) uses x
     by u (End k) is x = ends k is (tx_ender H k == m) x

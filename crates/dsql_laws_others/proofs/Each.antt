@@ -10,9 +10,9 @@ use Rattle.dsql_laws_calls.specs.history.declared.event.Event.TheVariants.{Enter
 use Rattle.dsql_laws_calls.specs.history.declared.event.Op.{Op}
 use Rattle.dsql_laws_calls.specs.history.declared.reply.Reply.{Reply}
 use Rattle.dsql_laws_calls.specs.history.declared.reply.Reply.TheVariants.{Truth}
-use Rattle.dsql_laws_calls.specs.history.declared.work.Scope.TheVariants.{Db, Tx}
+use Rattle.dsql_laws_calls.specs.history.declared.work.Scope.TheVariants.{Db, Held}
 use Rattle.dsql_laws_calls.specs.history.declared.work.Work.{Work}
-use Rattle.dsql_laws_calls.specs.history.declared.work.Work.TheVariants.{Execute, ReadOne, HandOut, Begin, End, Ping, Fetch, Close, Look}
+use Rattle.dsql_laws_calls.specs.history.declared.work.Work.TheVariants.{Statement, Begin, End, Ping, Fetch, Close, Look}
 use Rattle.dsql_laws_calls.specs.history.Readers.Calls.{told_by_tries, told_by_scope, told_of_work}
 use Rattle.dsql_laws_calls.specs.history.Readers.HandedOut.{are_over}
 use Rattle.dsql_laws_calls.specs.history.Readers.Tries.{tries}
@@ -24,7 +24,7 @@ use Rattle.dsql_laws_calls.proofs.laws.Numbered.{unfinished_from_one}
 
 -- What others have settled stays settled, whatever the call's work is.
 pub told_each : (H K : List Event) (m : ℕ) (it : Work) → ((v : Work) → is_some (told_by_tries H v (tries H m)) ≡ true → is_some (told_by_tries K v (tries K m)) ≡ true)
-    → ((v : Work) (k : ℕ) → is_some (told_by_scope H m v (Tx k)) ≡ true → is_some (told_by_scope K m v (Tx k)) ≡ true) → ((j : ℕ) → are_over H j ≡ true → are_over K j ≡ true) → is_some (told_of_work H m it) ≡ true → is_some (told_of_work K m it) ≡ true
+    → ((v : Work) (k : ℕ) → is_some (told_by_scope H m v (Held k)) ≡ true → is_some (told_by_scope K m v (Held k)) ≡ true) → ((j : ℕ) → are_over H j ≡ true → are_over K j ≡ true) → is_some (told_of_work H m it) ≡ true → is_some (told_of_work K m it) ≡ true
 told_each H K m it tried inner over h = by it h
   where
     fetched : (b c : Bool) → (b ≡ true → c ≡ true) → is_some (cond {A = Option Reply} b (Some (Truth false)) None) ≡ true → is_some (cond {A = Option Reply} c (Some (Truth false)) None) ≡ true
@@ -37,14 +37,10 @@ told_each H K m it tried inner over h = by it h
     by (Close j) k = k
     by (End j) k = absurd cc
     by Look k = absurd cc
-    by (Execute Db) k = tried (Execute Db) k
-    by (ReadOne Db dests) k = tried (ReadOne Db dests) k
-    by (HandOut Db label) k = tried (HandOut Db label) k
+    by (Statement Db task) k = tried (Statement Db task) k
     by (Begin label level read_only) k = tried (Begin label level read_only) k
     by Ping k = tried Ping k
-    by (Execute (Tx i)) k = inner (Execute (Tx i)) i k
-    by (ReadOne (Tx i) dests) k = inner (ReadOne (Tx i) dests) i k
-    by (HandOut (Tx i) label) k = inner (HandOut (Tx i) label) i k
+    by (Statement (Held i) task) k = inner (Statement (Held i) task) i k
 
 -- If each other call keeps standing somewhere, all calls except the new one stand somewhere after the entry.
 pub each_entered : (H : List Event) (client n : ℕ) (op : Op) → ((m : ℕ) → is_unfinished H m ≡ true → m ≢ 0 → m ≢ n → is_some (stand H m) ≡ true → is_some (stand (Entered client n op ∷ H) m) ≡ true) → Lawful H → calls_stand H ≡ true

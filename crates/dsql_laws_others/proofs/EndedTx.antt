@@ -11,9 +11,10 @@ use Rattle.dsql_laws_calls.specs.history.Readers.HandedOut.{over, ended_with, ha
 use Rattle.dsql_laws_calls.specs.history.declared.event.Event.{Event}
 use Rattle.dsql_laws_calls.specs.history.declared.event.Op.{Op}
 use Rattle.dsql_laws_calls.specs.history.declared.event.Op.TheVariants as ops
-use Rattle.dsql_laws_calls.specs.history.declared.work.Scope.TheVariants.{Db, Tx}
+use Rattle.dsql_laws_calls.specs.history.declared.work.Scope.TheVariants.{Db, Held}
 use Rattle.dsql_laws_calls.specs.history.declared.work.Work.{Work}
-use Rattle.dsql_laws_calls.specs.history.declared.work.Work.TheVariants.{HandOut}
+use Rattle.dsql_laws_calls.specs.history.declared.work.Task.TheVariants.{HandOut}
+use Rattle.dsql_laws_calls.specs.history.declared.work.Work.TheVariants.{Statement}
 use Rattle.dsql_laws_calls.specs.history.Readers.Pool.{place}
 use Rattle.dsql_laws_calls.specs.history.Readers.Works.{works, work, asks, hands_out_in, tx_maker}
 use Rattle.dsql_laws_calls.specs.history.Rules.Settled.{calls_stand, calls_stand_but, uses_what_is_lent}
@@ -35,8 +36,8 @@ each_after_end H client n op l ends h = each_on H client n op (entered_end H cli
 
 -- A call that is lent a connection hands out no rows in a transaction.
 outside : (w : Work) (k : ℕ) → asks w ≡ true → hands_out_in k w ≡ true → false ≡ true
-outside (HandOut Db label) k a h = h
-outside (HandOut (Tx i) label) k a h = a
+outside (Statement Db (HandOut label)) k a h = h
+outside (Statement (Held i) (HandOut label)) k a h = a
 outside w k a h = absurd cc
 
 live_rows : (H : List Event) (tx : List ℕ) (c t : ℕ) (own : Owner) → Lawful H → place H c ≡ Some (Lent t own) → are_live H (number_of own) ≡ true → over (rows_of (number_of own) (ended_with H tx (handed_out H))) ≡ true → false ≡ true

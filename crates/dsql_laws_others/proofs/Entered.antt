@@ -17,9 +17,9 @@ use Rattle.dsql_laws_calls.specs.history.declared.event.Event.TheVariants.{Enter
 use Rattle.dsql_laws_calls.specs.history.declared.event.Op.{Op}
 use Rattle.dsql_laws_calls.specs.history.declared.reply.Reply.TheVariants.{Truth}
 use Rattle.dsql_laws_calls.specs.history.declared.work.Scope.{Scope}
-use Rattle.dsql_laws_calls.specs.history.declared.work.Scope.TheVariants.{Db, Tx}
+use Rattle.dsql_laws_calls.specs.history.declared.work.Scope.TheVariants.{Db, Held}
 use Rattle.dsql_laws_calls.specs.history.declared.work.Work.{Work}
-use Rattle.dsql_laws_calls.specs.history.declared.work.Work.TheVariants.{Execute, ReadOne, HandOut, Begin, End, Ping, Fetch, Close, Look}
+use Rattle.dsql_laws_calls.specs.history.declared.work.Work.TheVariants.{Statement, Begin, End, Ping, Fetch, Close, Look}
 use Rattle.dsql_laws_calls.specs.history.Readers.Calls.{decided, done_with, has_begun_to_send, told_by_scope, told_of_work}
 use Rattle.dsql_laws_calls.specs.history.Readers.Course.{db_end}
 use Rattle.dsql_laws_calls.specs.history.Readers.Journals.{journal}
@@ -134,7 +134,7 @@ pub record Told (H K : List Event) (m : ℕ) : Type 0 where
 
 -- Returns the call that began the transaction of a scope, or 0 on the database.
 abbrev home_scope : Scope → ℕ
-home_scope (Tx k) = k
+home_scope (Held k) = k
 home_scope Db = 0
 
 record Over (H : List Event) (client n : ℕ) (op : Op) (m j : ℕ) : Type 0 where
@@ -275,21 +275,21 @@ rows_on H client n op m j o sent = by (closes H m j) (is_fetch (work H m) && (ar
 
 -- What is due in a transaction.
 
-inner_on : (H : List Event) (client n : ℕ) (op : Op) (m k : ℕ) → Enters H client n op → m ≢ n → ((K : List Event) → told_of_work K m (work H m) ≡ told_by_scope K m (work H m) (Tx k)) → is_some (due_inside H m (Tx k)) ≡ true
-    → (is_some (due_inside (enters H client n op) m (Tx k)) ≡ true) ⊎ Told H (enters H client n op) m
+inner_on : (H : List Event) (client n : ℕ) (op : Op) (m k : ℕ) → Enters H client n op → m ≢ n → ((K : List Event) → told_of_work K m (work H m) ≡ told_by_scope K m (work H m) (Held k)) → is_some (due_inside H m (Held k)) ≡ true
+    → (is_some (due_inside (enters H client n op) m (Held k)) ≡ true) ⊎ Told H (enters H client n op) m
 inner_on H client n op m k x apart tells due = by (has_begun_to_send H m) (goes_on H k && is_none (decided H m)) refl refl due
   where
     K : List Event
     K = enters H client n op
 
-    line : is_some (line_of H m wishes.Nothing) ≡ true → sends_in K m k ≡ true → is_some (due_inside K m (Tx k)) ≡ true
+    line : is_some (line_of H m wishes.Nothing) ≡ true → sends_in K m k ≡ true → is_some (due_inside K m (Held k)) ≡ true
     line h sends = ap (λ b. is_some (cond b (line_of K m wishes.Nothing) None)) sends ∙ (ap (λ d. is_some d) (kept_line H client n op m wishes.Nothing x apart) ∙ h)
 
     begun : has_begun_to_send H m ≡ true → sends_in K m k ≡ true
     begun h = or_first (has_begun_to_send K m) (goes_on K k && is_none (decided K m)) (kept_sent H client n op m x apart ∙ h)
 
     going : (tx_by K k ≡ tx_by H k) ⊎ ((goes_on H k ≡ true) × (is_over K k ≡ true)) → has_begun_to_send H m ≡ false → goes_on H k ≡ true → is_none (decided H m) ≡ true → is_some (line_of H m wishes.Nothing) ≡ true
-        → (is_some (due_inside K m (Tx k)) ≡ true) ⊎ Told H K m
+        → (is_some (due_inside K m (Held k)) ≡ true) ⊎ Told H K m
     going (inl same) unsent goes undecided h =
         inl (line h (or_second (has_begun_to_send K m) (goes_on K k && is_none (decided K m))
         (together (goes_on K k) (is_none (decided K m)) (same_going (tx_by H k) (tx_by K k) same ∙ goes) (ap (λ d. is_none d) (kept_decided H client n op m x apart) ∙ undecided))))
@@ -300,7 +300,7 @@ inner_on H client n op m k x apart tells due = by (has_begun_to_send H m) (goes_
         done None i = absurd cc
         done (Some end) i = refl
 
-    by : (s g : Bool) → has_begun_to_send H m ≡ s → (goes_on H k && is_none (decided H m)) ≡ g → is_some (cond (s || g) (line_of H m wishes.Nothing) None) ≡ true → (is_some (due_inside K m (Tx k)) ≡ true) ⊎ Told H K m
+    by : (s g : Bool) → has_begun_to_send H m ≡ s → (goes_on H k && is_none (decided H m)) ≡ g → is_some (cond (s || g) (line_of H m wishes.Nothing) None) ≡ true → (is_some (due_inside K m (Held k)) ≡ true) ⊎ Told H K m
     by true g sent goes h = inl (line h (begun sent))
     by false true sent goes h = let b = both (goes_on H k) (is_none (decided H m)) goes in going (tx_turn H client n op k) sent b.0 b.1 h
     by false false sent goes h = absurd cc
@@ -340,9 +340,9 @@ due_on H client n op m x apart u due = by (work H m) refl (sym (ap (λ b. is_som
     own : (w : Work) → work H m ≡ w → due_in (enters H client n op) m w ≡ line_of (enters H client n op) m wishes.Nothing → is_some (line_of H m wishes.Nothing) ≡ true → (is_some (due_for (enters H client n op) m) ≡ true) ⊎ Told H (enters H client n op) m
     own w is its h = inl (now (ap (λ v. is_some (due_in K m v)) is ∙ (ap (λ d. is_some d) (its ∙ kept_line H client n op m wishes.Nothing x apart) ∙ h)))
 
-    inner : (w : Work) (k : ℕ) → work H m ≡ w → due_in (enters H client n op) m w ≡ due_inside (enters H client n op) m (Tx k) → ((L : List Event) → told_of_work L m w ≡ told_by_scope L m w (Tx k)) → is_some (due_inside H m (Tx k)) ≡ true
+    inner : (w : Work) (k : ℕ) → work H m ≡ w → due_in (enters H client n op) m w ≡ due_inside (enters H client n op) m (Held k) → ((L : List Event) → told_of_work L m w ≡ told_by_scope L m w (Held k)) → is_some (due_inside H m (Held k)) ≡ true
         → (is_some (due_for (enters H client n op) m) ≡ true) ⊎ Told H (enters H client n op) m
-    inner w k is its tells h = elim (inner_on H client n op m k x apart (λ L. ap (told_of_work L m) is ∙ (tells L ∙ ap (λ v. told_by_scope L m v (Tx k)) (sym is))) h) [
+    inner w k is its tells h = elim (inner_on H client n op m k x apart (λ L. ap (told_of_work L m) is ∙ (tells L ∙ ap (λ v. told_by_scope L m v (Held k)) (sym is))) h) [
       | inl goes ↦ inl (now (ap (λ v. is_some (due_in K m v)) is ∙ (ap (λ d. is_some d) its ∙ goes)))
       | inr told ↦ inr told
     ]
@@ -358,14 +358,10 @@ due_on H client n op m x apart u due = by (work H m) refl (sym (ap (λ b. is_som
     ]
 
     by : (w : Work) → work H m ≡ w → is_some (due_in H m w) ≡ true → (is_some (due_for (enters H client n op) m) ≡ true) ⊎ Told H (enters H client n op) m
-    by (Execute Db) is h = own (Execute Db) is refl h
-    by (ReadOne Db dests) is h = own (ReadOne Db dests) is refl h
-    by (HandOut Db label) is h = own (HandOut Db label) is refl h
+    by (Statement Db task) is h = own (Statement Db task) is refl h
     by (Begin label level read_only) is h = own (Begin label level read_only) is refl h
     by Ping is h = own Ping is refl h
-    by (Execute (Tx k)) is h = inner (Execute (Tx k)) k is refl (λ L. refl) h
-    by (ReadOne (Tx k) dests) is h = inner (ReadOne (Tx k) dests) k is refl (λ L. refl) h
-    by (HandOut (Tx k) label) is h = inner (HandOut (Tx k) label) k is refl (λ L. refl) h
+    by (Statement (Held k) task) is h = inner (Statement (Held k) task) k is refl (λ L. refl) h
     by (Fetch j) is h = rows j (inl is) (ap (due_in K m) is) h
     by (Close j) is h = rows j (inr is) (ap (due_in K m) is) h
     by (End k) is h = inl (now (ap (λ v. is_some (due_in K m v)) is ∙ ends_on H client n op m k x h))

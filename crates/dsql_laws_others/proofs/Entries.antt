@@ -35,9 +35,9 @@ use Rattle.dsql_laws_calls.specs.history.declared.event.Op.TheVariants as ops
 use Rattle.dsql_laws_calls.specs.history.declared.record.CallRecord.{CallRecord}
 use Rattle.dsql_laws_calls.specs.history.declared.reply.Reply.TheVariants.{DbClosed, Truth}
 use Rattle.dsql_laws_calls.specs.history.declared.work.Scope.{Scope}
-use Rattle.dsql_laws_calls.specs.history.declared.work.Scope.TheVariants.{Db, Tx}
+use Rattle.dsql_laws_calls.specs.history.declared.work.Scope.TheVariants.{Db, Held}
 use Rattle.dsql_laws_calls.specs.history.declared.work.Work.{Work}
-use Rattle.dsql_laws_calls.specs.history.declared.work.Work.TheVariants.{Execute, ReadOne, HandOut, Begin, Ping, Fetch, Look}
+use Rattle.dsql_laws_calls.specs.history.declared.work.Work.TheVariants.{Statement, Begin, Ping, Fetch, Look}
 use Rattle.dsql_laws_calls.specs.history.Readers.Course.{caps, db_end}
 use Rattle.dsql_laws_calls.specs.history.Readers.Calls.{call_record, decided, has_begun_to_send, done_with, told_by_tries, told_by_scope, told_of_work, told_by_others, last_told, asks_nothing, rests, rests_with}
 use Rattle.dsql_laws_calls.specs.history.Readers.Journals.{journal}
@@ -219,7 +219,7 @@ entered_alike H client n op m l k apart =
       where
         late_in : (s : Scope) → is_late (Entered client n op ∷ H) s ≡ is_late H s
         late_in Db = refl
-        late_in (Tx i) = ap (λ T. is_some (end_of (thing_of i T))) k.txs
+        late_in (Held i) = ap (λ T. is_some (end_of (thing_of i T))) k.txs
 
 pub due_entered : (H : List Event) (client n : ℕ) (op : Op) (m : ℕ) → Lawful (Entered client n op ∷ H) → is_plain op ≡ true → m ≢ n → due_for (Entered client n op ∷ H) m ≡ due_for H m
 due_entered H client n op m l plain apart = due_alike H (Entered client n op ∷ H) m (entered_alike H client n op m l (leaves H client n op plain) apart)
@@ -260,15 +260,13 @@ tries_alike H K w ts same = ap (λ end. cond (has_a_try ts) (option_map DbClosed
 
 inside_told : (H : List Event) (client n : ℕ) (op : Op) (m : ℕ) (it : Work) (s : Scope) → Lawful (Entered client n op ∷ H) → Leaves H (Entered client n op ∷ H) → m ≢ n → told_by_scope (Entered client n op ∷ H) m it s ≡ told_by_scope H m it s
 inside_told H client n op m it Db l k apart = tries_alike H (Entered client n op ∷ H) it (tries H m) k.end
-inside_told H client n op m it (Tx j) l k apart =
+inside_told H client n op m it (Held j) l k apart =
     ap (λ b. cond b None (done_with (tx_end (Entered client n op ∷ H) j))) (sent_entered H client n op m l k.pool apart)
     ∙ ap (λ T. cond (has_begun_to_send H m) None (done_with (end_of (thing_of j T)))) k.txs
 
 work_alike : (H : List Event) (client n : ℕ) (op : Op) (m : ℕ) (it : Work) → Lawful (Entered client n op ∷ H) → Leaves H (Entered client n op ∷ H) → m ≢ n → told_of_work (Entered client n op ∷ H) m it ≡ told_of_work H m it
 work_alike H client n op m (Fetch k) l same apart = ap (λ R. cond (over (rows_of k R)) (Some (Truth false)) None) same.rows
-work_alike H client n op m (Execute s) l same apart = inside_told H client n op m (Execute s) s l same apart
-work_alike H client n op m (ReadOne s dests) l same apart = inside_told H client n op m (ReadOne s dests) s l same apart
-work_alike H client n op m (HandOut s label) l same apart = inside_told H client n op m (HandOut s label) s l same apart
+work_alike H client n op m (Statement s task) l same apart = inside_told H client n op m (Statement s task) s l same apart
 work_alike H client n op m (Begin label level read_only) l same apart = inside_told H client n op m (Begin label level read_only) Db l same apart
 work_alike H client n op m Ping l same apart = inside_told H client n op m Ping Db l same apart
 work_alike H client n op m _ l same apart = refl

@@ -37,9 +37,10 @@ use Rattle.dsql_laws_calls.proofs.Cases.{true_false}
 use Rattle.dsql_laws_calls.proofs.laws_work.Rows.{same_or_not}
 use Rattle.dsql_laws_calls.specs.history.declared.event.Event.{Event}
 use Rattle.dsql_laws_calls.specs.history.declared.event.Event.TheVariants.{Entered, Heard, Pool, Ended}
-use Rattle.dsql_laws_calls.specs.history.declared.work.Scope.TheVariants.{Db, Tx}
+use Rattle.dsql_laws_calls.specs.history.declared.work.Scope.TheVariants.{Db, Held}
 use Rattle.dsql_laws_calls.specs.history.declared.work.Work.{Work}
-use Rattle.dsql_laws_calls.specs.history.declared.work.Work.TheVariants.{Execute, ReadOne, HandOut, Begin, End, Fetch, Close, Look}
+use Rattle.dsql_laws_calls.specs.history.declared.work.Task.TheVariants.{HandOut}
+use Rattle.dsql_laws_calls.specs.history.declared.work.Work.TheVariants.{Statement, Begin, End, Fetch, Close, Look}
 use Rattle.dsql_laws_calls.specs.history.Readers.Calls.{decided, has_begun_to_send}
 use Rattle.dsql_laws_calls.specs.history.Readers.Course.{caps}
 use Rattle.dsql_laws_calls.specs.history.Readers.Journals.{heard_in}
@@ -99,15 +100,15 @@ record LiveAt (H : List Event) (c t : ℕ) (own : Owner) : Type 0 where
 
 -- Returns the label of the rows that the work hands out.
 abbrev label_of : Work → List ℕ
-label_of (HandOut s label) = label
+label_of (Statement s (HandOut label)) = label
 label_of w = []
 
-hands_itself : (H : List Event) (c t : ℕ) (own : Owner) → LiveAt H c t own → work H (number_of own) ≡ HandOut Db (label_of (work H (number_of own)))
+hands_itself : (H : List Event) (c t : ℕ) (own : Owner) → LiveAt H c t own → work H (number_of own) ≡ Statement Db (HandOut (label_of (work H (number_of own))))
 hands_itself H c t own x = by (work H (number_of own)) (rows_hand_out H (number_of own) (live_some (rows_by H (number_of own)) x.lives)) (lent_asks H c t own x.lawful x.lent)
   where
-    by : (w : Work) → hands_out w ≡ true → asks w ≡ true → w ≡ HandOut Db (label_of w)
-    by (HandOut Db label) h k = refl
-    by (HandOut (Tx k) label) h i = absurd cc
+    by : (w : Work) → hands_out w ≡ true → asks w ≡ true → w ≡ Statement Db (HandOut (label_of w))
+    by (Statement Db (HandOut label)) h k = refl
+    by (Statement (Held k) (HandOut label)) h i = absurd cc
     by w h k = absurd cc
 
 unbegun : (H : List Event) (c t : ℕ) (own : Owner) → LiveAt H c t own → is_begun H (number_of own) ≡ true → ⊥
@@ -199,7 +200,7 @@ due_fetches H e own holds x d same comes = whose (e.call_no == 0) refl (ap (λ o
         let mine : e.call_no ≡ i = sym (asks_own H e.call_no asker) ∙ sym at in
         none_wanted e.call (line_over H e.conn e.tenure own wishes.Nothing e.call x holding (ap (λ k. is_due (line_of H k wishes.Nothing) e.call) (sym mine) ∙ h))
 
-    inner : (k : ℕ) → (e.call_no == 0) ≡ false → scope (work H e.call_no) ≡ Tx k → (w : Wish) → is_due (line_of H e.call_no w) e.call ≡ true → ⊥
+    inner : (k : ℕ) → (e.call_no == 0) ≡ false → scope (work H e.call_no) ≡ Held k → (w : Wish) → is_due (line_of H e.call_no w) e.call ≡ true → ⊥
     inner k some s w h =
         let at = line_at_its H e.call_no e.conn e.tenure own w e.call (d.site some) x.lent h in
         let n = inside H x.lawful in
@@ -225,8 +226,8 @@ due_fetches H e own holds x d same comes = whose (e.call_no == 0) refl (ap (λ o
             of (work H j) refl (rows_hand_out H j made) (sym at)
           where
             of : (v : Work) → work H j ≡ v → hands_out v ≡ true → borrower H j ≡ number_of own → j ≡ number_of own
-            of (HandOut Db label) is y uses = sym (rw is refl) ∙ uses
-            of (HandOut (Tx k) label) is y uses =
+            of (Statement Db (HandOut label)) is y uses = sym (rw is refl) ∙ uses
+            of (Statement (Held k) (HandOut label)) is y uses =
                 let its : k ≡ number_of own = sym (rw is refl) ∙ uses in
                 absurd (unbegun H e.conn e.tenure own x (rows_begun H j (number_of own) x.lawful made (ap (hands_out_in (number_of own)) is ∙ (ap (λ z. k == z) (sym its) ∙ same_itself k))))
             of v is y uses = absurd cc
@@ -259,9 +260,7 @@ due_fetches H e own holds x d same comes = whose (e.call_no == 0) refl (ap (λ o
         unbegun H e.conn e.tenure own x (ap (is_begun H) number ∙ over_begun H k (ending_over H k sends))
 
     of_call : (some : (e.call_no == 0) ≡ false) → (w : Work) → work H e.call_no ≡ w → is_due (due_in H e.call_no w) e.call ≡ true → Fetches H e (number_of own)
-    of_call some (Execute (Tx k)) is h = absurd (inner k some (ap scope is) wishes.Nothing (inside_line (sends_in H e.call_no k) (line_of H e.call_no wishes.Nothing) h))
-    of_call some (ReadOne (Tx k) dests) is h = absurd (inner k some (ap scope is) wishes.Nothing (inside_line (sends_in H e.call_no k) (line_of H e.call_no wishes.Nothing) h))
-    of_call some (HandOut (Tx k) label) is h = absurd (inner k some (ap scope is) wishes.Nothing (inside_line (sends_in H e.call_no k) (line_of H e.call_no wishes.Nothing) h))
+    of_call some (Statement (Held k) task) is h = absurd (inner k some (ap scope is) wishes.Nothing (inside_line (sends_in H e.call_no k) (line_of H e.call_no wishes.Nothing) h))
     of_call some (Fetch j) is h = rows j some (inl is) h
     of_call some (Close j) is h = rows j some (inr is) h
     of_call some (End k) is h = absurd (ends k some is (tx_ender H k == e.call_no) h)
@@ -301,9 +300,9 @@ were_live H x n h = by (are_live H n) (is_some (rows_by H n)) refl refl
 
 -- An answer that makes rows leaves them open to fetches.
 query_holds : (H : List Event) (it : Work) (m : ℕ) (q : DriverCall) (a : DriverAnswer) (n : ℕ) (R : Made) (s : Step) → hands_out it ≡ true → is_some (rows_of n R) ≡ false → is_some (rows_of n (rows_heard H it m q a R)) ≡ true → is_holding (step_after s q a) ≡ true
-query_holds H (HandOut scope label) m (Query (Text text) params) (Cursor cursor columns) n R s h none some = refl
-query_holds H (HandOut scope label) m (Query (Handle handle) params) (Cursor cursor columns) n R s h none some = refl
-query_holds H (HandOut scope label) m q a n R s h none some = absurd (true_false (is_some (rows_of n R)) some none)
+query_holds H (Statement scope (HandOut label)) m (Query (Text text) params) (Cursor cursor columns) n R s h none some = refl
+query_holds H (Statement scope (HandOut label)) m (Query (Handle handle) params) (Cursor cursor columns) n R s h none some = refl
+query_holds H (Statement scope (HandOut label)) m q a n R s h none some = absurd (true_false (is_some (rows_of n R)) some none)
 query_holds H it m q a n R s h none some = absurd cc
 
 -- A fetch that leaves rows live leaves them open to fetches.
@@ -427,14 +426,14 @@ comes_next H x l holds comes e own may at call lives = by (or_cases (is_due_at (
         let b = both (not (parts x e)) (may_come H e) could in
         came_before H x e own l comes (off (parts x e) b.0) b.1 at call lives
 
-record Held (H : List Event) : Type 0 where
+record HoldsOn (H : List Event) : Type 0 where
   holds : Holds H
   comes : Comes H
 
-held_on : (H : List Event) (x : Event) → Lawful (x ∷ H) → Holds (x ∷ H) → Held H → Held (x ∷ H)
+held_on : (H : List Event) (x : Event) → Lawful (x ∷ H) → Holds (x ∷ H) → HoldsOn H → HoldsOn (x ∷ H)
 held_on H x l holds h = record { holds = holds; comes = comes_next H x l holds h.comes }
 
-held : (H : List Event) → Lawful H → Held H
+held : (H : List Event) → Lawful H → HoldsOn H
 held [] l = record { holds = λ c t own at call lives. absurd cc; comes = λ e own may at call lives. absurd cc }
 held (Heard e ∷ H) l = let h = held H l.0 in held_on H (Heard e) l (heard_holds H e l h.holds h.comes) h
 held (x ∷ H) l = let h = held H l.0 in held_on H x l (quiet_holds H x l refl h.holds) h

@@ -11,9 +11,9 @@ use Rattle.dsql_laws_calls.specs.history.declared.record.Try.{Try}
 use Rattle.dsql_laws_calls.specs.history.declared.event.Event.{Event}
 use Rattle.dsql_laws_calls.specs.history.declared.event.Event.TheVariants.{Pool}
 use Rattle.dsql_laws_calls.specs.history.declared.work.Scope.{Scope}
-use Rattle.dsql_laws_calls.specs.history.declared.work.Scope.TheVariants.{Db, Tx}
+use Rattle.dsql_laws_calls.specs.history.declared.work.Scope.TheVariants.{Db, Held}
 use Rattle.dsql_laws_calls.specs.history.declared.work.Work.{Work}
-use Rattle.dsql_laws_calls.specs.history.declared.work.Work.TheVariants.{Execute, ReadOne, HandOut, Begin, End, Ping, Fetch, Close, Look}
+use Rattle.dsql_laws_calls.specs.history.declared.work.Work.TheVariants.{Statement, Begin, End, Ping, Fetch, Close, Look}
 use Rattle.dsql_laws_calls.specs.history.Readers.Calls.{has_begun_to_send, told_by_tries, told_by_scope, told_of_work, told_by_others, done_with}
 use Rattle.dsql_laws_calls.specs.history.Readers.Transactions.{tx_end}
 use Rattle.dsql_laws_calls.specs.history.Readers.Journals.{journal}
@@ -118,7 +118,7 @@ tried_alike H move w ts us same = ap (told_by_tries H w) same
 told_inside : (H : List Event) (move : Move) (m : ℕ) (w : Work) (s : Scope) → tries (Pool move ∷ H) m ≡ tries H m → (has_begun_to_send (Pool move ∷ H) m ≡ true → has_begun_to_send H m ≡ true)
     → is_some (told_by_scope H m w s) ≡ true → is_some (told_by_scope (Pool move ∷ H) m w s) ≡ true
 told_inside H move m w Db same fewer h = ap (λ o. is_some o) (tried_alike H move w (tries H m) (tries (Pool move ∷ H) m) same) ∙ h
-told_inside H move m w (Tx k) same fewer h = by (has_begun_to_send (Pool move ∷ H) m) (has_begun_to_send H m) fewer h
+told_inside H move m w (Held k) same fewer h = by (has_begun_to_send (Pool move ∷ H) m) (has_begun_to_send H m) fewer h
   where
     by : (now was : Bool) → (now ≡ true → was ≡ true) → is_some (cond was None (done_with (tx_end H k))) ≡ true → is_some (cond now None (done_with (tx_end H k))) ≡ true
     by now true f x = absurd cc
@@ -134,8 +134,6 @@ told_still H move m same fewer h = by (work H m) h
     by (Close k) x = x
     by (End k) x = absurd cc
     by Look x = absurd cc
-    by (Execute s) x = told_inside H move m (Execute s) s same fewer x
-    by (ReadOne s dests) x = told_inside H move m (ReadOne s dests) s same fewer x
-    by (HandOut s label) x = told_inside H move m (HandOut s label) s same fewer x
+    by (Statement s task) x = told_inside H move m (Statement s task) s same fewer x
     by (Begin label level read_only) x = told_inside H move m (Begin label level read_only) Db same fewer x
     by Ping x = told_inside H move m Ping Db same fewer x

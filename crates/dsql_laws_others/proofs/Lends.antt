@@ -43,7 +43,8 @@ use Rattle.dsql_laws_calls.specs.history.declared.event.Event.{Event}
 use Rattle.dsql_laws_calls.specs.history.declared.event.Event.TheVariants.{Pool}
 use Rattle.dsql_laws_calls.specs.history.declared.work.Scope.TheVariants.{Db}
 use Rattle.dsql_laws_calls.specs.history.declared.work.Work.{Work}
-use Rattle.dsql_laws_calls.specs.history.declared.work.Work.TheVariants.{Execute, ReadOne, HandOut, Begin, Ping}
+use Rattle.dsql_laws_calls.specs.history.declared.work.Task.TheVariants.{Execute, ReadOne, HandOut}
+use Rattle.dsql_laws_calls.specs.history.declared.work.Work.TheVariants.{Statement, Begin, Ping}
 use Rattle.dsql_laws_calls.specs.history.Readers.Calls.{site, decided, told_by_others, asks_nothing, rests, rests_with}
 use Rattle.dsql_laws_calls.specs.history.Readers.Course.{caps}
 use Rattle.dsql_laws_calls.specs.history.Readers.Journals.{heard_in}
@@ -135,6 +136,9 @@ answered_unless can Ping ts h = by (can.pinger || can.validator) h
     by : (b : Bool) → not b ≡ false → b ≡ true
     by true k = refl
     by false k = absurd cc
+answered_unless can (Statement s Execute) ts h = refl
+answered_unless can (Statement s (ReadOne dests)) ts h = refl
+answered_unless can (Statement s (HandOut label)) ts h = refl
 answered_unless can it ts h = refl
 
 newest_lent : (H : List Event) (c t : ℕ) (own : Owner) (n : ℕ) → tries (lends H c t own n) n ≡ Served ∷ tries H n
@@ -159,9 +163,7 @@ sends_with S own answered = by S.work own
         either : (b : Bool) → is_some (cond b (Some Reset) (Some (calls.Begin level read_only))) ≡ true
         either true = refl
         either false = refl
-    by (Execute Db) h = plainly S.reset_due
-    by (ReadOne Db dests) h = plainly S.reset_due
-    by (HandOut Db label) h = plainly S.reset_due
+    by (Statement Db task) h = plainly S.reset_due
     by Ping h = plainly S.reset_due
     by v h = absurd cc
 

@@ -23,9 +23,10 @@ use Rattle.dsql_laws_calls.proofs.laws.Tests.{both, together, other_number, same
 use Rattle.dsql_laws_calls.proofs.Found.{place_in, uses_in, changed_off}
 use Rattle.dsql_laws_calls.proofs.laws_work.Rows.{same_or_not}
 use Rattle.dsql_laws_calls.specs.history.declared.event.Event.{Event}
-use Rattle.dsql_laws_calls.specs.history.declared.work.Scope.TheVariants.{Db, Tx}
+use Rattle.dsql_laws_calls.specs.history.declared.work.Scope.TheVariants.{Db, Held}
 use Rattle.dsql_laws_calls.specs.history.declared.work.Work.{Work}
-use Rattle.dsql_laws_calls.specs.history.declared.work.Work.TheVariants.{HandOut}
+use Rattle.dsql_laws_calls.specs.history.declared.work.Task.TheVariants.{HandOut}
+use Rattle.dsql_laws_calls.specs.history.declared.work.Work.TheVariants.{Statement}
 use Rattle.dsql_laws_calls.specs.history.Readers.Calls.{asks_nothing, rests}
 use Rattle.dsql_laws_calls.specs.history.Readers.Course.{caps}
 use Rattle.dsql_laws_calls.specs.history.Readers.Pool.{pool, place, home}
@@ -143,10 +144,10 @@ rows_elsewhere H c t own n j l some uses = by (work H j) refl (rows_hand_out H j
     never x = cc
 
     by : (it : Work) → work H j ≡ it → hands_out it ≡ true → ⊥
-    by (HandOut Db label) is h =
+    by (Statement Db (HandOut label)) is h =
         let own_one : borrower H j ≡ j = rw is refl in
         no_rows H c t own n l (ap (λ k. is_some (rows_by H k)) (sym uses ∙ own_one) ∙ some)
-    by (HandOut (Tx k) label) is h =
+    by (Statement (Held k) (HandOut label)) is h =
         let its : borrower H j ≡ k = rw is refl in
         let inside : hands_out_in n (work H j) ≡ true = ap (hands_out_in n) is ∙ (ap (λ i. i == n) (sym its ∙ uses) ∙ same_itself n) in
         never (sym (rows_begun H j n l.0 some inside) ∙ lent_unbegun H c t own n l)

@@ -12,9 +12,9 @@ use Rattle.dsql_laws_calls.proofs.DueWay.{borrow_same}
 use Rattle.dsql_laws_calls.proofs.laws_work.Rows.{same_or_not}
 use Rattle.dsql_laws_calls.specs.history.declared.event.Event.{Event}
 use Rattle.dsql_laws_calls.specs.history.declared.event.Event.TheVariants.{Pool}
-use Rattle.dsql_laws_calls.specs.history.declared.work.Scope.TheVariants.{Db, Tx}
+use Rattle.dsql_laws_calls.specs.history.declared.work.Scope.TheVariants.{Db, Held}
 use Rattle.dsql_laws_calls.specs.history.declared.work.Work.{Work}
-use Rattle.dsql_laws_calls.specs.history.declared.work.Work.TheVariants.{Execute, ReadOne, HandOut, Begin, End, Ping, Fetch, Close, Look}
+use Rattle.dsql_laws_calls.specs.history.declared.work.Work.TheVariants.{Statement, Begin, End, Ping, Fetch, Close, Look}
 use Rattle.dsql_laws_calls.specs.history.Readers.Calls.{decided, site, has_begun_to_send}
 use Rattle.dsql_laws_calls.specs.history.Readers.Journals.{journal}
 use Rattle.dsql_laws_calls.specs.history.Readers.Lines.{has_sent}
@@ -77,7 +77,7 @@ pub unmade : (L : List Event) (n j : ℕ) → n ≢ 0 → is_some (rows_by L j) 
 unmade L n j some none = ap (sent_for L j) (no_wish L n j some (none_made (rows_by L j) none))
 
 -- A call in a transaction that wasn't begun has sent nothing.
-pub unbegun_silent : (H : List Event) (m n c : ℕ) → Lawful H → is_begun H n ≡ false → scope (work H m) ≡ Tx n → has_sent m (journal H c) ≡ false
+pub unbegun_silent : (H : List Event) (m n c : ℕ) → Lawful H → is_begun H n ≡ false → scope (work H m) ≡ Held n → has_sent m (journal H c) ≡ false
 unbegun_silent H m n c l unbegun is = by (has_sent m (journal H c)) refl
   where
     never : true ≡ false → ⊥
@@ -87,7 +87,7 @@ unbegun_silent H m n c l unbegun is = by (has_sent m (journal H c)) refl
     by false h = refl
     by true h = let i = inside H l in absurd (never (sym (i.sent m n c h is) ∙ unbegun))
 
-pub nothing_in : (L : List Event) (m n : ℕ) → has_begun_to_send L m ≡ false → is_begun L n ≡ false → due_inside L m (Tx n) ≡ None
+pub nothing_in : (L : List Event) (m n : ℕ) → has_begun_to_send L m ≡ false → is_begun L n ≡ false → due_inside L m (Held n) ≡ None
 nothing_in L m n unsent unbegun =
     ap (λ b. cond (b || (goes_on L n && is_none (decided L m))) (line_of L m wishes.Nothing) None) unsent
     ∙ ap (λ b. cond ((b && not (is_over L n)) && is_none (decided L m)) (line_of L m wishes.Nothing) None) unbegun
@@ -122,7 +122,7 @@ due_others H c t own n m l apart = by_unfinished (is_unfinished H m) refl
     own_line : asks (work H m) ≡ true → ((x : ℕ) → (work H m ≡ Fetch x) ⊎ (work H m ≡ Close x) → ⊥) → due_for K m ≡ due_for H m
     own_line asking none = due_alike H K m (beside_alike H c t own n m l (λ uses. apart (sym (asks_own H m asking) ∙ uses)) (λ x which. absurd (none x which)))
 
-    in_tx : (k : ℕ) → scope (work H m) ≡ Tx k → ((x : ℕ) → (work H m ≡ Fetch x) ⊎ (work H m ≡ Close x) → ⊥) → ((L : List Event) → due_in L m (work H m) ≡ due_inside L m (Tx k)) → (k ≡ n) ⊎ (k ≢ n) → due_for K m ≡ due_for H m
+    in_tx : (k : ℕ) → scope (work H m) ≡ Held k → ((x : ℕ) → (work H m ≡ Fetch x) ⊎ (work H m ≡ Close x) → ⊥) → ((L : List Event) → due_in L m (work H m) ≡ due_inside L m (Held k)) → (k ≡ n) ⊎ (k ≢ n) → due_for K m ≡ due_for H m
     in_tx k is none inner (inr away) = due_alike H K m (beside_alike H c t own n m l (λ uses. away (sym (inside_uses H m k is) ∙ uses)) (λ x which. absurd (none x which)))
     in_tx k is none inner (inl same) =
         let unbegun : is_begun H k ≡ false = ap (is_begun H) same ∙ lent_unbegun H c t own n l in
@@ -150,14 +150,10 @@ due_others H c t own n m l apart = by_unfinished (is_unfinished H m) refl
         closed x (inr w) = ap rows_in (sym w ∙ is)
     by (End k) is some = let e = ending_same H c t own n k l in let d = same_tx_ender H (Pool (Lend c t own n)) k refl in ap (λ x. cond (is_unfinished H m) x None) (ap (due_in K m) is ∙ (ap (λ i. cond (i == m) (ending K k) None) d ∙ (ap (λ q. cond (tx_ender H k == m) q None) e ∙ sym (ap (due_in H m) is))))
     by Look is some = ap (λ x. cond (is_unfinished H m) x None) (ap (due_in K m) is ∙ sym (ap (due_in H m) is))
-    by (Execute Db) is some = own_line (ap asks is) (neither (Execute Db) is (apart_from (Execute Db) refl))
-    by (ReadOne Db dests) is some = own_line (ap asks is) (neither (ReadOne Db dests) is (apart_from (ReadOne Db dests) refl))
-    by (HandOut Db label) is some = own_line (ap asks is) (neither (HandOut Db label) is (apart_from (HandOut Db label) refl))
+    by (Statement Db task) is some = own_line (ap asks is) (neither (Statement Db task) is (apart_from (Statement Db task) refl))
     by (Begin label level read_only) is some = own_line (ap asks is) (neither (Begin label level read_only) is (apart_from (Begin label level read_only) refl))
     by Ping is some = own_line (ap asks is) (neither Ping is (apart_from Ping refl))
-    by (Execute (Tx k)) is some = in_tx k (ap scope is) (neither (Execute (Tx k)) is (apart_from (Execute (Tx k)) refl)) (λ L. ap (due_in L m) is) (same_or_not k n)
-    by (ReadOne (Tx k) dests) is some = in_tx k (ap scope is) (neither (ReadOne (Tx k) dests) is (apart_from (ReadOne (Tx k) dests) refl)) (λ L. ap (due_in L m) is) (same_or_not k n)
-    by (HandOut (Tx k) label) is some = in_tx k (ap scope is) (neither (HandOut (Tx k) label) is (apart_from (HandOut (Tx k) label) refl)) (λ L. ap (due_in L m) is) (same_or_not k n)
+    by (Statement (Held k) task) is some = in_tx k (ap scope is) (neither (Statement (Held k) task) is (apart_from (Statement (Held k) task) refl)) (λ L. ap (due_in L m) is) (same_or_not k n)
 
     by_unfinished : (b : Bool) → is_unfinished H m ≡ b → due_for K m ≡ due_for H m
     by_unfinished false u = ap (λ (b : Bool). cond b (due_in K m (work H m)) None) u ∙ sym (ap (λ (b : Bool). cond b (due_in H m (work H m)) None) u)

@@ -21,9 +21,9 @@ use Rattle.dsql_laws_others.proofs.Settling.{each_stands}
 use Rattle.dsql_laws_others.proofs.Untouched.{still_stands}
 use Rattle.dsql_laws_calls.specs.history.declared.event.Event.{Event}
 use Rattle.dsql_laws_calls.specs.history.declared.work.Scope.{Scope}
-use Rattle.dsql_laws_calls.specs.history.declared.work.Scope.TheVariants.{Db, Tx}
+use Rattle.dsql_laws_calls.specs.history.declared.work.Scope.TheVariants.{Db, Held}
 use Rattle.dsql_laws_calls.specs.history.declared.work.Work.{Work}
-use Rattle.dsql_laws_calls.specs.history.declared.work.Work.TheVariants.{Execute, ReadOne, HandOut, Begin, End, Ping, Fetch, Close, Look}
+use Rattle.dsql_laws_calls.specs.history.declared.work.Work.TheVariants.{Statement, Begin, End, Ping, Fetch, Close, Look}
 use Rattle.dsql_laws_calls.specs.history.Readers.Calls.{site, decided, has_begun_to_send, done_with, told_by_tries, told_by_scope, told_of_work, told_by_others, rests, rests_with}
 use Rattle.dsql_laws_calls.specs.history.Readers.Journals.{journal}
 use Rattle.dsql_laws_calls.specs.history.Readers.Lines.{has_sent}
@@ -82,7 +82,7 @@ home_same H c t own n j l apart =
 
 -- What others have settled stays settled.
 
-fewer_sent : (H : List Event) (c t : ℕ) (own : Owner) (n m k : ℕ) → Lawful (lends H c t own n) → scope (work H m) ≡ Tx k → has_begun_to_send (lends H c t own n) m ≡ true → has_begun_to_send H m ≡ true
+fewer_sent : (H : List Event) (c t : ℕ) (own : Owner) (n m k : ℕ) → Lawful (lends H c t own n) → scope (work H m) ≡ Held k → has_begun_to_send (lends H c t own n) m ≡ true → has_begun_to_send H m ≡ true
 fewer_sent H c t own n m k l is h = by (same_or_not k n)
   where
     never : false ≡ true → ⊥
@@ -100,7 +100,7 @@ tries_same H c t own n m apart = ap (λ b. with_try b Served (tries H m)) (other
 
 told_inside : (H : List Event) (c t : ℕ) (own : Owner) (n m : ℕ) (w : Work) (s : Scope) → Lawful (lends H c t own n) → m ≢ n → scope (work H m) ≡ s → is_some (told_by_scope H m w s) ≡ true → is_some (told_by_scope (lends H c t own n) m w s) ≡ true
 told_inside H c t own n m w Db l apart is h = ap (λ ts. is_some (told_by_tries H w ts)) (tries_same H c t own n m apart) ∙ h
-told_inside H c t own n m w (Tx k) l apart is h = by (has_begun_to_send (lends H c t own n) m) (has_begun_to_send H m) (fewer_sent H c t own n m k l is) h
+told_inside H c t own n m w (Held k) l apart is h = by (has_begun_to_send (lends H c t own n) m) (has_begun_to_send H m) (fewer_sent H c t own n m k l is) h
   where
     by : (now was : Bool) → (now ≡ true → was ≡ true) → is_some (cond was None (done_with (tx_end H k))) ≡ true → is_some (cond now None (done_with (tx_end H k))) ≡ true
     by now true f x = absurd cc
@@ -115,9 +115,7 @@ told_lent H c t own n m l apart h = by (work H m) refl h
     by (Close k) is x = x
     by (End k) is x = absurd cc
     by Look is x = absurd cc
-    by (Execute s) is x = told_inside H c t own n m (Execute s) s l apart (ap scope is) x
-    by (ReadOne s dests) is x = told_inside H c t own n m (ReadOne s dests) s l apart (ap scope is) x
-    by (HandOut s label) is x = told_inside H c t own n m (HandOut s label) s l apart (ap scope is) x
+    by (Statement s task) is x = told_inside H c t own n m (Statement s task) s l apart (ap scope is) x
     by (Begin label level read_only) is x = told_inside H c t own n m (Begin label level read_only) Db l apart (ap scope is) x
     by Ping is x = told_inside H c t own n m Ping Db l apart (ap scope is) x
 

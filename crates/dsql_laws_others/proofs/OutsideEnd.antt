@@ -18,9 +18,10 @@ use Rattle.dsql_laws_calls.specs.history.declared.event.Event.TheVariants.{Enter
 use Rattle.dsql_laws_calls.specs.history.declared.event.Op.{Op}
 use Rattle.dsql_laws_calls.specs.history.declared.event.Op.TheVariants as ops
 use Rattle.dsql_laws_calls.specs.history.declared.work.Scope.{Scope}
-use Rattle.dsql_laws_calls.specs.history.declared.work.Scope.TheVariants.{Db, Tx}
+use Rattle.dsql_laws_calls.specs.history.declared.work.Scope.TheVariants.{Db, Held}
 use Rattle.dsql_laws_calls.specs.history.declared.work.Work.{Work}
-use Rattle.dsql_laws_calls.specs.history.declared.work.Work.TheVariants.{Execute, ReadOne, HandOut, End, Fetch, Close, Look}
+use Rattle.dsql_laws_calls.specs.history.declared.work.Task.TheVariants.{HandOut}
+use Rattle.dsql_laws_calls.specs.history.declared.work.Work.TheVariants.{Statement, End, Fetch, Close, Look}
 use Rattle.dsql_laws_calls.specs.history.Readers.Calls.{decided, has_begun_to_send}
 use Rattle.dsql_laws_calls.specs.history.Readers.Transactions.{ends_as, transactions, tx_by, end_of, is_begun, is_over, goes_on, tx_ender}
 use Rattle.dsql_laws_calls.specs.history.Readers.Unfinished.{is_unfinished}
@@ -63,7 +64,7 @@ same_tx H client n op m k o uses = elim (tx_turn H client n op k) [
 
 -- What the other call sends in a transaction, or to end one, stays the same.
 
-inner_same : (H : List Event) (client n : ℕ) (op : Op) (m k : ℕ) → Outside H client n op m → borrower H m ≡ k → due_inside (enters H client n op) m (Tx k) ≡ due_inside H m (Tx k)
+inner_same : (H : List Event) (client n : ℕ) (op : Op) (m k : ℕ) → Outside H client n op m → borrower H m ≡ k → due_inside (enters H client n op) m (Held k) ≡ due_inside H m (Held k)
 inner_same H client n op m k o uses =
     let K = enters H client n op in
     let x = entry H client n op m o in
@@ -102,8 +103,8 @@ rows_ended H client n op tx by m j o user over = of (end_turn H tx j)
     k = tx_maker (works H) tx
 
     uses : (w : Work) → work H j ≡ w → hands_out_in k w ≡ true → borrower H j ≡ k
-    uses (HandOut (Tx i) label) is h = rw is refl ∙ same_number i k h
-    uses (HandOut Db label) is h = absurd cc
+    uses (Statement (Held i) (HandOut label)) is h = rw is refl ∙ same_number i k h
+    uses (Statement Db (HandOut label)) is h = absurd cc
     uses w is h = absurd cc
 
     of : (rows_of j (ended_with H tx (handed_out H)) ≡ rows_by H j) ⊎ (Turns (rows_by H j) (rows_of j (ended_with H tx (handed_out H))) × EndsNow H tx j) → rows_of j (ended_with H tx (handed_out H)) ≡ rows_by H j
@@ -129,7 +130,7 @@ same_late H client n op m j o user = by (scope (work H j)) refl
   where
     by : (s : Scope) → scope (work H j) ≡ s → is_late (enters H client n op) s ≡ is_late H s
     by Db is = refl
-    by (Tx k) is = ap (λ t. is_some (end_of t)) (same_tx H client n op m k o (user ∙ inside_uses H j k is))
+    by (Held k) is = ap (λ t. is_some (end_of t)) (same_tx H client n op m k o (user ∙ inside_uses H j k is))
 
 sent_as : (K H : List Event) (j : ℕ) (w v : Wish) → v ≡ w → ((u : Wish) → line_of K j u ≡ line_of H j u) → sent_for K j v ≡ sent_for H j w
 sent_as K H j w v same lines = ap (sent_for K j) same ∙ by w
@@ -192,9 +193,7 @@ due_outside H client n op m o =
     line = kept_line H client n op m wishes.Nothing (entry H client n op m o) o.apart
 
     by : m ≢ 0 → (w : Work) → work H m ≡ w → due_in (enters H client n op) m w ≡ due_in H m w
-    by some (Execute (Tx k)) is = inner_same H client n op m k o (rw is refl)
-    by some (ReadOne (Tx k) dests) is = inner_same H client n op m k o (rw is refl)
-    by some (HandOut (Tx k) label) is = inner_same H client n op m k o (rw is refl)
+    by some (Statement (Held k) task) is = inner_same H client n op m k o (rw is refl)
     by some (End k) is = ends_same H client n op m k o (rw is refl)
     by some (Fetch j) is = rows_same H client n op m j o some (inl is)
     by some (Close j) is = rows_same H client n op m j o some (inr is)

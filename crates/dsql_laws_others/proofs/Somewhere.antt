@@ -14,7 +14,7 @@ use Rattle.dsql_laws_calls.specs.history.declared.event.Event.{Event}
 use Rattle.dsql_laws_calls.specs.history.declared.event.Event.TheVariants.{Entered}
 use Rattle.dsql_laws_calls.specs.history.declared.event.Op.{Op}
 use Rattle.dsql_laws_calls.specs.history.declared.reply.Reply.TheVariants.{DbClosed}
-use Rattle.dsql_laws_calls.specs.history.declared.work.Scope.TheVariants.{Tx}
+use Rattle.dsql_laws_calls.specs.history.declared.work.Scope.TheVariants.{Held}
 use Rattle.dsql_laws_calls.specs.history.declared.work.Work.{Work}
 use Rattle.dsql_laws_calls.specs.history.Readers.Calls.{decided, done_with, has_begun_to_send, last_told, rests, rests_with, site, told_by_others, told_by_tries, told_by_scope, told_of_work}
 use Rattle.dsql_laws_calls.specs.history.Readers.Transactions.{tx_end}
@@ -41,7 +41,7 @@ told_on H client n op m it x apart h = told_each H (enters H client n op) m it t
     tried : (v : Work) → is_some (told_by_tries H v (tries H m)) ≡ true → is_some (told_by_tries (enters H client n op) v (tries H m)) ≡ true
     tried v k = ap (λ end. is_some (cond (has_a_try (tries H m)) (option_map DbClosed end) (last_told (tries_again v (try_number (tries H m))) (try_number (tries H m)) (tries H m)))) x.end ∙ k
 
-    inner : (v : Work) (k : ℕ) → is_some (told_by_scope H m v (Tx k)) ≡ true → is_some (told_by_scope (enters H client n op) m v (Tx k)) ≡ true
+    inner : (v : Work) (k : ℕ) → is_some (told_by_scope H m v (Held k)) ≡ true → is_some (told_by_scope (enters H client n op) m v (Held k)) ≡ true
     inner v k i = ap (λ b. is_some (cond b None (done_with (tx_end K k)))) (kept_sent H client n op m x apart) ∙ of (has_begun_to_send H m) i
       where
         ended : (o p : Option TxEnd) → (is_some o ≡ true → is_some p ≡ true) → is_some (done_with o) ≡ true → is_some (done_with p) ≡ true

@@ -29,9 +29,9 @@ use Rattle.dsql_laws_calls.specs.history.declared.event.Event.TheVariants.{Enter
 use Rattle.dsql_laws_calls.specs.history.declared.event.Op.{Op}
 use Rattle.dsql_laws_calls.specs.history.declared.event.Op.TheVariants as ops
 use Rattle.dsql_laws_calls.specs.history.declared.reply.Reply.TheVariants.{TxDone}
-use Rattle.dsql_laws_calls.specs.history.declared.work.Scope.TheVariants.{Tx}
+use Rattle.dsql_laws_calls.specs.history.declared.work.Scope.TheVariants.{Held}
 use Rattle.dsql_laws_calls.specs.history.declared.work.Work.{Work}
-use Rattle.dsql_laws_calls.specs.history.declared.work.Work.TheVariants.{Execute, ReadOne, HandOut}
+use Rattle.dsql_laws_calls.specs.history.declared.work.Work.TheVariants.{Statement}
 use Rattle.dsql_laws_calls.specs.history.Readers.Calls.{decided, done_with, has_begun_to_send, reply_due, rests_with, site, told_at_lending, told_by_others, told_by_scope, told_of_work}
 use Rattle.dsql_laws_calls.specs.history.Readers.HandedOut.{rows_by, are_live}
 use Rattle.dsql_laws_calls.specs.history.Readers.Transactions.{ends_as, transactions, tx_by, end_of, tx_end, is_begun, is_over, goes_on}
@@ -97,26 +97,20 @@ pub record Unsent (H : List Event) (client n : ℕ) (op : Op) (m k : ℕ) : Type
   pub now : ends_now H (Entered client n op) k ≡ true
   pub apart : m ≢ n
   pub unfinished : is_unfinished H m ≡ true
-  pub inner : scope (work H m) ≡ Tx k
+  pub inner : scope (work H m) ≡ Held k
   pub silent : has_begun_to_send H m ≡ false
   pub undecided : decided H m ≡ None
 
-told_within : (L : List Event) (m k : ℕ) (w : Work) → scope w ≡ Tx k → told_of_work L m w ≡ told_by_scope L m w (Tx k)
-told_within L m k (Execute s) is = ap (told_by_scope L m (Execute s)) is
-told_within L m k (ReadOne s dests) is = ap (told_by_scope L m (ReadOne s dests)) is
-told_within L m k (HandOut s label) is = ap (told_by_scope L m (HandOut s label)) is
+told_within : (L : List Event) (m k : ℕ) (w : Work) → scope w ≡ Held k → told_of_work L m w ≡ told_by_scope L m w (Held k)
+told_within L m k (Statement s task) is = ap (told_by_scope L m (Statement s task)) is
 told_within L m k w is = absurd cc
 
-due_within : (L : List Event) (m k : ℕ) (w : Work) → scope w ≡ Tx k → due_in L m w ≡ due_inside L m (Tx k)
-due_within L m k (Execute s) is = ap (due_inside L m) is
-due_within L m k (ReadOne s dests) is = ap (due_inside L m) is
-due_within L m k (HandOut s label) is = ap (due_inside L m) is
+due_within : (L : List Event) (m k : ℕ) (w : Work) → scope w ≡ Held k → due_in L m w ≡ due_inside L m (Held k)
+due_within L m k (Statement s task) is = ap (due_inside L m) is
 due_within L m k w is = absurd cc
 
-asks_within : (w : Work) (k : ℕ) → scope w ≡ Tx k → asks w ≡ false
-asks_within (Execute (Tx j)) k is = refl
-asks_within (ReadOne (Tx j) dests) k is = refl
-asks_within (HandOut (Tx j) label) k is = refl
+asks_within : (w : Work) (k : ℕ) → scope w ≡ Held k → asks w ≡ false
+asks_within (Statement (Held j) task) k is = refl
 asks_within w k is = absurd cc
 
 told_so : (H : List Event) (client n : ℕ) (op : Op) (m k : ℕ) → Unsent H client n op m k → told_by_others (enters H client n op) m ≡ Some (TxDone (end_by op))
@@ -158,7 +152,7 @@ silent_now H client n op m k u =
     none true false = refl
     none false b = refl
 
-unwanting : (H : List Event) (m k : ℕ) → Lawful H → m ≢ 0 → scope (work H m) ≡ Tx k → wants m (pool H) ≡ false
+unwanting : (H : List Event) (m k : ℕ) → Lawful H → m ≢ 0 → scope (work H m) ≡ Held k → wants m (pool H) ≡ false
 unwanting H m k l some inner = by (wants m (pool H)) refl
   where
     by : (b : Bool) → wants m (pool H) ≡ b → b ≡ false

@@ -5,7 +5,7 @@ ghost use Rattle.dsql_laws_calls.specs.history.declared.event.Event.{Event};
 ghost use Rattle.dsql_laws_calls.specs.history.declared.event.Event.TheVariants.{Entered};
 ghost use Rattle.dsql_laws_calls.specs.history.declared.event.Op.{Op};
 ghost use Rattle.dsql_laws_calls.specs.history.declared.reply.Reply.TheVariants.{TxDone};
-ghost use Rattle.dsql_laws_calls.specs.history.declared.work.Scope.TheVariants.{Tx};
+ghost use Rattle.dsql_laws_calls.specs.history.declared.work.Scope.TheVariants.{Held};
 ghost use Rattle.dsql_laws_calls.specs.history.Readers.Calls.{decided, has_begun_to_send, reply_due};
 ghost use Rattle.dsql_laws_calls.specs.history.Readers.HandedOut.{are_live};
 ghost use Rattle.dsql_laws_calls.specs.history.Readers.Unfinished.{is_unfinished};
@@ -36,11 +36,11 @@ pub fn ending_a_transaction_leaves_each_call_somewhere()
 pub fn who_sent_nothing_is_told_of_the_end()
     ensures told { (history : List Event) (client n m k : ℕ) (op : Op) → Lawful (Entered client n op ∷ history)
         → ends_transaction op ≡ true → ends_now history (Entered client n op) k ≡ true → m ≢ n
-        → is_unfinished history m ≡ true → scope (work history m) ≡ Tx k → has_begun_to_send history m ≡ false
+        → is_unfinished history m ≡ true → scope (work history m) ≡ Held k → has_begun_to_send history m ≡ false
         → decided history m ≡ None → reply_due (Entered client n op ∷ history) m ≡ Some (TxDone (end_by op)) }
     ensures stands { (history : List Event) (client n m k : ℕ) (op : Op) → Lawful (Entered client n op ∷ history)
         → ends_transaction op ≡ true → ends_now history (Entered client n op) k ≡ true → m ≢ n
-        → is_unfinished history m ≡ true → scope (work history m) ≡ Tx k → has_begun_to_send history m ≡ false
+        → is_unfinished history m ≡ true → scope (work history m) ≡ Held k → has_begun_to_send history m ≡ false
         → decided history m ≡ None → stand (Entered client n op ∷ history) m ≡ Some Replies }
     ensures rows { (history : List Event) (client n j k : ℕ) (op : Op) → Lawful (Entered client n op ∷ history)
         → ends_transaction op ≡ true → ends_now history (Entered client n op) k ≡ true

@@ -23,6 +23,7 @@ use Rattle.dsql_laws_replies.proofs.Awaited.{is_one, needs_answer, awaits, await
 use Rattle.dsql_laws_calls.specs.history.declared.event.Event.{Event}
 use Rattle.dsql_laws_calls.specs.history.declared.event.Event.TheVariants.{Heard, Pool}
 use Rattle.dsql_laws_calls.specs.history.declared.work.Work.{Work}
+use Rattle.dsql_laws_calls.specs.history.declared.work.Task.TheVariants as tasks
 use Rattle.dsql_laws_calls.specs.history.declared.work.Work.TheVariants as works_of
 use Rattle.dsql_laws_calls.specs.history.Readers.Course.{caps}
 use Rattle.dsql_laws_calls.specs.history.Readers.HandedOut.{rows_by}
@@ -188,7 +189,7 @@ opened : (H : List Event) (c t : ℕ) (own : Owner) → Lawful H → place H c �
 opened H c t own l is plain some = by (own_cursor (exchanges (heard_in H c t))) refl (held H c t own l is some)
   where
     handing : (w : Work) → hands_out w ≡ true → aim_of w ≡ aims.HandOut
-    handing (works_of.HandOut scope label) h = refl
+    handing (works_of.Statement scope (tasks.HandOut label)) h = refl
     handing w h = absurd cc
 
     by : (o : Option ℕ) → own_cursor (exchanges (heard_in H c t)) ≡ o → is_some o ≡ true → awaits (is_one (asked_by H (number_of own)).aim) (heard_in H c t) (length (asked_by H (number_of own)).params) ≡ false

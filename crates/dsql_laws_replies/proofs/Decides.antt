@@ -23,7 +23,8 @@ use Rattle.dsql_laws_calls.specs.journal.declared.entry.Entry.{Entry}
 use Rattle.dsql_laws_calls.specs.works.declared.work.Aim.TheVariants as aims
 use Rattle.dsql_laws_calls.specs.history.declared.work.Scope.TheVariants.{Db}
 use Rattle.dsql_laws_calls.specs.history.declared.work.Work.{Work}
-use Rattle.dsql_laws_calls.specs.history.declared.work.Work.TheVariants.{Execute, ReadOne, HandOut, Ping as Pings, Close}
+use Rattle.dsql_laws_calls.specs.history.declared.work.Task.TheVariants.{Execute, ReadOne, HandOut}
+use Rattle.dsql_laws_calls.specs.history.declared.work.Work.TheVariants.{Statement, Ping as Pings, Close}
 use Rattle.dsql_laws_calls.specs.history.Readers.Works.{asks, aim_of}
 use Rattle.dsql_laws_calls.specs.works.Exchanges.{exchanges, step_of, with_exchange}
 use Rattle.dsql_laws_calls.specs.works.Line.{Asked, is_due_in_line, line_after}
@@ -55,7 +56,7 @@ counted (pos want) count = by_test (want == count)
     by_test false = refl
 
 -- The answer to a fetch decides.
-row_decides : (again : Bool) (number : ℕ) (dests : List Dest) (rows : ℕ) (a : DriverAnswer) → fits_of (Next rows) a ≡ true → is_memory a ≡ false → is_bad a ≡ false → is_some (fetch_decision again number (ReadOne Db dests) a) ≡ true
+row_decides : (again : Bool) (number : ℕ) (dests : List Dest) (rows : ℕ) (a : DriverAnswer) → fits_of (Next rows) a ≡ true → is_memory a ≡ false → is_bad a ≡ false → is_some (fetch_decision again number (Statement Db (ReadOne dests)) a) ≡ true
 row_decides again number dests rows (Row values) fit heard good = told_any values dests
 row_decides again number dests rows End fit heard good = refl
 row_decides again number dests rows Bad fit heard good = absurd cc
@@ -76,8 +77,8 @@ close_keeps number it a d own h = closing_decides number a d h
 
 -- An answer that decides for any call also decides for a query.
 query_decides : (again : Bool) (number : ℕ) (it : Work) (a : DriverAnswer) → is_some (reply_to again number a) ≡ true → is_some (query_decision again number it a) ≡ true
-query_decides again number (HandOut it label) (Cursor rows columns) h = refl
-query_decides again number (HandOut it label) a h = h
+query_decides again number (Statement it (HandOut label)) (Cursor rows columns) h = refl
+query_decides again number (Statement it (HandOut label)) a h = h
 query_decides again number it a h = h
 
 misfit : (fit memory : Bool) → fit ≡ true → memory ≡ false → fit && not memory ≡ true
@@ -94,12 +95,12 @@ cursor_at can asked _ made rows g m = absurd cc
 
 pub fetch_settles : (again : Bool) (number : ℕ) (can : Caps) (text : List ℕ) (params : List Param) (it : Work) (w : Wish) (s : Step) (made : List Exchange) (rows : ℕ) (a : DriverAnswer) → asks it ≡ true → begins it ≡ false → (w ≡ wishes.Fetch → ⊥)
     → SentAt can (asking text params (aim_of it)) w s made (Next rows) a → (is_tried it (Next rows) && is_bad a) ≡ false → is_some (fetch_decision again number it a) ≡ true
-fetch_settles again number can text params (ReadOne Db dests) w s made rows a own plain fetch x good = row_decides again number dests rows a x.fit x.heard good
-fetch_settles again number can text params (HandOut Db label) w s made rows a own plain fetch x good =
+fetch_settles again number can text params (Statement Db (ReadOne dests)) w s made rows a own plain fetch x good = row_decides again number dests rows a x.fit x.heard good
+fetch_settles again number can text params (Statement Db (HandOut label)) w s made rows a own plain fetch x good =
     let c = cursor_at can (asking text params aims.HandOut) s made rows x.next x.before in
     let over = x.over rows c.1 in
     absurd (fetch over.0)
-fetch_settles again number can text params (Execute Db) w s made rows a own plain fetch x good = let c = cursor_at can (asking text params aims.Execute) s made rows x.next x.before in absurd (impossible c.0)
+fetch_settles again number can text params (Statement Db Execute) w s made rows a own plain fetch x good = let c = cursor_at can (asking text params aims.Execute) s made rows x.next x.before in absurd (impossible c.0)
 fetch_settles again number can text params Pings w s made rows a own plain fetch x good = let c = cursor_at can (asking text params aims.Ping) s made rows x.next x.before in absurd (impossible c.0)
 fetch_settles again number can text params it w s made rows a own plain fetch x good = absurd cc
 
@@ -113,8 +114,8 @@ opened_reads can asked s made (Handle handle) ps rows columns m = m.reads
 
 cursor_settles : (again : Bool) (number : ℕ) (it : Work) (rows : ℕ) (columns : List (List ℕ)) → asks it ≡ true → queries_it (aim_of it) ≡ true
     → is_some (query_decision again number it (Cursor rows columns)) || is_one (aim_of it) ≡ true
-cursor_settles again number (HandOut Db label) rows columns own reads = refl
-cursor_settles again number (ReadOne Db dests) rows columns own reads = refl
+cursor_settles again number (Statement Db (HandOut label)) rows columns own reads = refl
+cursor_settles again number (Statement Db (ReadOne dests)) rows columns own reads = refl
 cursor_settles again number it rows columns own reads = absurd cc
 
 -- After the answer to a driver call that is due, the reply is settled, or another answer decides.

@@ -22,9 +22,10 @@ use Rattle.dsql_laws_calls.proofs.laws_work.Rows.{same_or_not}
 use Rattle.dsql_laws_calls.proofs.laws.Tests.{same_itself}
 use Rattle.dsql_laws_calls.specs.history.declared.event.Event.{Event}
 use Rattle.dsql_laws_calls.specs.history.declared.event.Event.TheVariants.{Entered, Heard, Pool, Ended}
-use Rattle.dsql_laws_calls.specs.history.declared.work.Scope.TheVariants.{Tx}
+use Rattle.dsql_laws_calls.specs.history.declared.work.Scope.TheVariants.{Held}
 use Rattle.dsql_laws_calls.specs.history.declared.work.Work.{Work}
-use Rattle.dsql_laws_calls.specs.history.declared.work.Work.TheVariants.{HandOut, Fetch}
+use Rattle.dsql_laws_calls.specs.history.declared.work.Task.TheVariants.{HandOut}
+use Rattle.dsql_laws_calls.specs.history.declared.work.Work.TheVariants.{Statement, Fetch}
 use Rattle.dsql_laws_calls.specs.history.Readers.Journals.{heard_in}
 use Rattle.dsql_laws_calls.specs.history.Readers.Lines.{is_about, line_among}
 use Rattle.dsql_laws_calls.specs.history.Readers.Pool.{place, home}
@@ -67,8 +68,8 @@ holds_more n e L h = by (grows n e L)
     by (inr (more, any)) = ap (λ M. is_some (own_cursor (exchanges M))) more ∙ holds_with (step_of e.call) e.answer (exchanges (line_among n L)) h
 
 heard_gives : (H : List Event) (it : Work) (m : ℕ) (q : DriverCall) (a : DriverAnswer) (n : ℕ) (R : Made) (made : List Exchange) → is_some (rows_of n (rows_heard H it m q a R)) ≡ true → (is_some (rows_of n R) ≡ true) ⊎ (is_some (own_cursor (with_exchange (step_of q) a made)) ≡ true)
-heard_gives H (HandOut s label) m (Query (Text text) params) (Cursor cursor columns) n R made h = inr refl
-heard_gives H (HandOut s label) m (Query (Handle handle) params) (Cursor cursor columns) n R made h = inr refl
+heard_gives H (Statement s (HandOut label)) m (Query (Text text) params) (Cursor cursor columns) n R made h = inr refl
+heard_gives H (Statement s (HandOut label)) m (Query (Handle handle) params) (Cursor cursor columns) n R made h = inr refl
 heard_gives H (Fetch k) m (Next cursor) a n R made h = inl (sym (some_changed (fetched a) k n R) ∙ h)
 heard_gives H _ m q a n R made h = inl h
 
@@ -80,13 +81,13 @@ answer_holds H e c t own n l is hands some rest = by (some_heard H (work H e.cal
     kept (inl here) were = ap (λ L. holds L n) (heard_more H e c t own l.1 is here) ∙ holds_more n e (heard_in H c t) (rest were)
     kept (inr off) were = ap (λ J. holds (of_tenure t J) n) (heard_other H e c off) ∙ rest were
 
-    in_it : scope (work H n) ≡ Tx (number_of own)
+    in_it : scope (work H n) ≡ Held (number_of own)
     in_it = scoped (work H n) (number_of own) hands
 
     here_so : n ≡ e.call_no → e.conn ≡ c
     here_so mine =
         let there = heard_there H e l.1 in
-        let mine_in : scope (work H e.call_no) ≡ Tx (number_of own) = ap (λ j. scope (work H j)) (sym mine) ∙ in_it in
+        let mine_in : scope (work H e.call_no) ≡ Held (number_of own) = ap (λ j. scope (work H j)) (sym mine) ∙ in_it in
         let numbered = number_not H e.call_no (number_of own) mine_in in
         let s = sound H l.0 in
         let w = s.coming e (comes H e (place H e.conn) there.sets there.line numbered) in

@@ -16,9 +16,9 @@ use Rattle.dsql_laws_calls.proofs.laws_work.Rows.{same_or_not}
 use Rattle.dsql_laws_calls.proofs.laws.Tests.{both, same_number, same_itself, other_number}
 use Rattle.dsql_laws_calls.specs.history.declared.event.Event.{Event}
 use Rattle.dsql_laws_calls.specs.history.declared.event.Event.TheVariants.{Entered, Heard, Replied}
-use Rattle.dsql_laws_calls.specs.history.declared.work.Scope.TheVariants.{Tx, Db}
+use Rattle.dsql_laws_calls.specs.history.declared.work.Scope.TheVariants.{Held, Db}
 use Rattle.dsql_laws_calls.specs.history.declared.work.Work.{Work}
-use Rattle.dsql_laws_calls.specs.history.declared.work.Work.TheVariants.{HandOut, Fetch, End, Look, Execute, ReadOne, Begin, Ping, Close}
+use Rattle.dsql_laws_calls.specs.history.declared.work.Work.TheVariants.{Statement, Fetch, End, Look, Begin, Ping, Close}
 use Rattle.dsql_laws_calls.specs.history.Readers.Journals.{heard_in}
 use Rattle.dsql_laws_calls.specs.history.Readers.Pool.{place, home}
 use Rattle.dsql_laws_calls.specs.history.Readers.Transactions.{tx_end, tx_ender, is_begun, is_over, goes_on, ending_call, transactions, ends_as, tx_by, end_of}
@@ -82,7 +82,7 @@ rows_ending H k wishes.Close q h e = never (is_ending q) e (no_ending H k wishes
 
 inside_ending : (H : List Event) (m : ℕ) (s : Scope) (q : DriverCall) → is_due (due_inside H m s) q ≡ true → is_ending q ≡ true → ⊥
 inside_ending H m Db q h e = never (is_ending q) e (no_ending H m wishes.Nothing q h)
-inside_ending H m (Tx k) q h e = cond_ending H m wishes.Nothing q (sends_in H m k) h e
+inside_ending H m (Held k) q h e = cond_ending H m wishes.Nothing q (sends_in H m k) h e
 
 record Ender (H : List Event) (e : Entry) : Type 0 where
   owner : Owner
@@ -119,9 +119,7 @@ ender_now H e l now ends = by (e.call_no == 0) refl d.due
     works_by (Close k) it some h = absurd (rows_ending H k (wish H e.call_no k) e.call h ends)
     works_by (End k) it some h = own_end k it some (tx_ender H k == e.call_no) refl h
     works_by Look it some h = absurd cc
-    works_by (Execute s) it some h = absurd (inside_ending H e.call_no s e.call h ends)
-    works_by (ReadOne s dests) it some h = absurd (inside_ending H e.call_no s e.call h ends)
-    works_by (HandOut s label) it some h = absurd (inside_ending H e.call_no s e.call h ends)
+    works_by (Statement s task) it some h = absurd (inside_ending H e.call_no s e.call h ends)
     works_by (Begin label level read_only) it some h = absurd (inside_ending H e.call_no Db e.call h ends)
     works_by Ping it some h = absurd (inside_ending H e.call_no Db e.call h ends)
 

@@ -26,9 +26,10 @@ use Rattle.dsql_laws_calls.specs.works.declared.work.Aim.TheVariants as aims
 use Rattle.dsql_laws_calls.specs.history.Readers.HandedOut.{rows_by, are_over}
 use Rattle.dsql_laws_calls.proofs.laws.Tests.{both, same_number}
 use Rattle.dsql_laws_calls.specs.history.declared.event.Event.{Event}
-use Rattle.dsql_laws_calls.specs.history.declared.work.Scope.TheVariants.{Tx}
+use Rattle.dsql_laws_calls.specs.history.declared.work.Scope.TheVariants.{Held}
 use Rattle.dsql_laws_calls.specs.history.declared.work.Work.{Work}
-use Rattle.dsql_laws_calls.specs.history.declared.work.Work.TheVariants.{HandOut, End, Look}
+use Rattle.dsql_laws_calls.specs.history.declared.work.Task.TheVariants.{HandOut}
+use Rattle.dsql_laws_calls.specs.history.declared.work.Work.TheVariants.{Statement, End, Look}
 use Rattle.dsql_laws_calls.specs.history.Readers.Course.{caps}
 use Rattle.dsql_laws_calls.specs.history.Readers.Journals.{journal, heard_in}
 use Rattle.dsql_laws_calls.specs.history.Readers.Pool.{place, home}
@@ -68,7 +69,7 @@ sent_kind can asked due.Over p t h = absurd cc
 sent_kind can asked c p t h = absurd cc
 
 handing : (w : Work) (k : ℕ) → hands_out_in k w ≡ true → aim_of w ≡ aims.HandOut
-handing (HandOut s label) k h = refl
+handing (Statement s (HandOut label)) k h = refl
 handing w k h = absurd cc
 
 closing_kind : (H : List Event) (c t : ℕ) (own : Owner) (n : ℕ) (p : DriverCall) → Lawful H → place H c ≡ Some (Lent t own) → is_begun H (number_of own) ≡ true → hands_out_in (number_of own) (work H n) ≡ true → close_due H n ≡ Some p → end_kind p ≡ true
@@ -80,7 +81,7 @@ closing_kind H c t own n p l is begun hands h = by (are_over H n) refl h
     made : List Exchange
     made = line_made H c t n
 
-    in_it : scope (work H n) ≡ Tx (number_of own)
+    in_it : scope (work H n) ≡ Held (number_of own)
     in_it = scoped (work H n) (number_of own) hands
 
     line : line_of H n wishes.Close ≡ body_with (untested (caps H)) (went_bad (journal H c)) (asked_by H n) wishes.Close (line_made H c t n) (handed (asked_by H n).aim (line_made H c t n))

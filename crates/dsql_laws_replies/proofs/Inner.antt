@@ -14,7 +14,7 @@ use Rattle.dsql_laws_calls.specs.works.declared.work.Aim.{Aim}
 use Rattle.dsql_laws_calls.specs.works.declared.work.Aim.TheVariants as aims
 use Rattle.dsql_laws_calls.specs.history.Rules.Wishes.{newest_sender}
 use Rattle.dsql_laws_calls.specs.history.declared.event.Event.{Event}
-use Rattle.dsql_laws_calls.specs.history.declared.work.Scope.TheVariants.{Tx}
+use Rattle.dsql_laws_calls.specs.history.declared.work.Scope.TheVariants.{Held}
 use Rattle.dsql_laws_calls.specs.history.Readers.Course.{caps}
 use Rattle.dsql_laws_calls.specs.history.Readers.Calls.{decided}
 use Rattle.dsql_laws_calls.specs.history.Readers.Journals.{journal, heard_in}
@@ -83,7 +83,7 @@ awaits_lent : (H : List Event) (e : Event) (n k : ℕ) → Lawful (e ∷ H) → 
 awaits_lent H e n k l a = stays_lent H e a.conn a.tenure a.owner l.0 l.1 a.lent (tx_used H a.conn a.tenure a.owner l.0 a.lent (record { begun = ap (is_begun H) a.number ∙ a.begun; left = inl a.none }))
 
 -- If nothing more was heard on the connection, the call still awaits an answer.
-pub awaits_still : (H : List Event) (e : Event) (n k : ℕ) → Lawful (e ∷ H) → scope (work H n) ≡ Tx k → (a : InAwaits H n k) → journal (e ∷ H) a.conn ≡ journal H a.conn → InAwaits (e ∷ H) n k
+pub awaits_still : (H : List Event) (e : Event) (n k : ℕ) → Lawful (e ∷ H) → scope (work H n) ≡ Held k → (a : InAwaits H n k) → journal (e ∷ H) a.conn ≡ journal H a.conn → InAwaits (e ∷ H) n k
 awaits_still H e n k l s a J = record {
   conn = a.conn;
   tenure = a.tenure;
@@ -98,13 +98,13 @@ awaits_still H e n k l s a J = record {
       (asked_stays H e n (inside_busy (work H n) k s)) (ap (of_tenure a.tenure) J) a.awaited;
 }
 
-pub over_at : (H : List Event) (e : Event) (n k : ℕ) → Lawful (e ∷ H) → scope (work H n) ≡ Tx k → IsOver H n k → (c t : ℕ) (own : Owner) → place H c ≡ Some (Lent t own) → number_of own ≡ k → journal (e ∷ H) c ≡ journal H c → OverAt (caps (e ∷ H)) (asked_by (e ∷ H) n) (line_made (e ∷ H) c t n)
+pub over_at : (H : List Event) (e : Event) (n k : ℕ) → Lawful (e ∷ H) → scope (work H n) ≡ Held k → IsOver H n k → (c t : ℕ) (own : Owner) → place H c ≡ Some (Lent t own) → number_of own ≡ k → journal (e ∷ H) c ≡ journal H c → OverAt (caps (e ∷ H)) (asked_by (e ∷ H) n) (line_made (e ∷ H) c t n)
 over_at H e n k l s o c t own is number J =
     over_as (caps H) (caps (e ∷ H)) (asked_by H n) (asked_by (e ∷ H) n) n (heard_in H c t) (heard_in (e ∷ H) c t) (caps_stay H e c (Lent t own) l.1 is) (asked_stays H e n (inside_busy (work H n) k s)) (ap (of_tenure t) J)
     (o.over c t own is number)
 
 -- The event isn't an answer.
-pub inner_quiet : (H : List Event) (e : Event) (n k : ℕ) → Lawful (e ∷ H) → is_answer e ≡ false → is_unfinished (e ∷ H) n ≡ true → scope (work H n) ≡ Tx k → Inner H n k → Inner (e ∷ H) n k
+pub inner_quiet : (H : List Event) (e : Event) (n k : ℕ) → Lawful (e ∷ H) → is_answer e ≡ false → is_unfinished (e ∷ H) n ≡ true → scope (work H n) ≡ Held k → Inner H n k → Inner (e ∷ H) n k
 inner_quiet H e n k l none u s i = by i
   where
     same : is_some (decided (e ∷ H) n) ≡ is_some (decided H n)
@@ -139,13 +139,13 @@ unhanded can aims.HandOut count made (inr (inl p)) = rw p.is (opened p.rest p.be
 unhanded can _ count made h = refl
 
 -- So the next step of its course comes next in its line.
-line_next : (H : List Event) (c t : ℕ) (own : Owner) (n k : ℕ) → Lawful H → place H c ≡ Some (Lent t own) → number_of own ≡ k → is_begun H k ≡ true → scope (work H n) ≡ Tx k → handed (asked_by H n).aim (line_made H c t n) ≡ None
+line_next : (H : List Event) (c t : ℕ) (own : Owner) (n k : ℕ) → Lawful H → place H c ≡ Some (Lent t own) → number_of own ≡ k → is_begun H k ≡ true → scope (work H n) ≡ Held k → handed (asked_by H n).aim (line_made H c t n) ≡ None
     → line_there H c t own n wishes.Nothing ≡ sent_as (untested (caps H)) (asked_by H n) (next_inside (caps H) (went_bad (journal H c)) (asked_by H n) (line_made H c t n))
 line_next H c t own n k l is number begun s none =
     of_due.inner_is H c t own n wishes.Nothing k (begin_owner H c t own l is (begun_begins H (number_of own) l (ap (is_begun H) number ∙ begun))) s
     ∙ of_quiet.inner_is (caps H) (went_bad (journal H c)) (asked_by H n) wishes.Nothing (line_among n (heard_in H c t)) none
 
-pub awaiting_line : (H : List Event) (c t : ℕ) (own : Owner) (n k : ℕ) → Lawful H → place H c ≡ Some (Lent t own) → number_of own ≡ k → is_begun H k ≡ true → scope (work H n) ≡ Tx k → AwaitsAt (caps H) (asked_by H n) (line_made H c t n)
+pub awaiting_line : (H : List Event) (c t : ℕ) (own : Owner) (n k : ℕ) → Lawful H → place H c ≡ Some (Lent t own) → number_of own ≡ k → is_begun H k ≡ true → scope (work H n) ≡ Held k → AwaitsAt (caps H) (asked_by H n) (line_made H c t n)
     → is_some (line_there H c t own n wishes.Nothing) ≡ true
 awaiting_line H c t own n k l is number begun s h =
     ap (λ d. is_some d) (line_next H c t own n k l is number begun s (unhanded (caps H) (asked_by H n).aim (length (asked_by H n).params) (line_made H c t n) h))

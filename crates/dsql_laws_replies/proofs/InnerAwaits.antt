@@ -12,9 +12,10 @@ use Rattle.dsql_laws_calls.specs.works.declared.work.Aim.{Aim}
 use Rattle.dsql_laws_calls.specs.works.declared.work.Aim.TheVariants as aims
 use Rattle.dsql_laws_calls.specs.works.Line.{sent_as}
 use Rattle.dsql_laws_calls.proofs.laws_work.MadeLines.{asking, has_text}
-use Rattle.dsql_laws_calls.specs.history.declared.work.Scope.TheVariants.{Tx}
+use Rattle.dsql_laws_calls.specs.history.declared.work.Scope.TheVariants.{Held}
 use Rattle.dsql_laws_calls.specs.history.declared.work.Work.{Work}
-use Rattle.dsql_laws_calls.specs.history.declared.work.Work.TheVariants.{Execute, ReadOne, HandOut}
+use Rattle.dsql_laws_calls.specs.history.declared.work.Task.TheVariants.{Execute, ReadOne, HandOut}
+use Rattle.dsql_laws_calls.specs.history.declared.work.Work.TheVariants.{Statement}
 use Rattle.dsql_laws_calls.specs.history.Readers.Works.{scope, aim_of}
 use Rattle.dsql_laws_calls.specs.history.Rules.Sent.{untested}
 use Rattle.dsql_laws_calls.proofs.Quiet.{next_inside}
@@ -104,14 +105,14 @@ pub fourth_handle : (can : Caps) (bad : Bool) (text : List ℕ) (params : List P
 fourth_handle can bad text params rows run handle inputs rest (inl f) = rw f refl
 fourth_handle can bad text params rows run handle inputs rest (inr f) = rw f refl
 
-pub text_of : (it : Work) (k : ℕ) → scope it ≡ Tx k → has_text (aim_of it) ≡ true
-text_of (Execute s) k h = refl
-text_of (ReadOne s dests) k h = refl
-text_of (HandOut s label) k h = refl
+pub text_of : (it : Work) (k : ℕ) → scope it ≡ Held k → has_text (aim_of it) ≡ true
+text_of (Statement s Execute) k h = refl
+text_of (Statement s (ReadOne dests)) k h = refl
+text_of (Statement s (HandOut label)) k h = refl
 text_of it k h = absurd cc
 
 -- A call that awaits an answer sends something.
-pub inner_sends : (can : Caps) (bad : Bool) (text : List ℕ) (params : List Param) (it : Work) (k : ℕ) (made : List Exchange) → scope it ≡ Tx k → Awaiting can (aim_of it) (length params) made
+pub inner_sends : (can : Caps) (bad : Bool) (text : List ℕ) (params : List Param) (it : Work) (k : ℕ) (made : List Exchange) → scope it ≡ Held k → Awaiting can (aim_of it) (length params) made
     → is_some (sent_as (untested can) (asking text params (aim_of it)) (next_inside can bad (asking text params (aim_of it)) made)) ≡ true
 inner_sends can bad text params it k made s (inl (inl none)) = rw none (by it s)
   where
@@ -119,10 +120,10 @@ inner_sends can bad text params it k made s (inl (inl none)) = rw none (by it s)
     either aim true d is = rw is refl
     either aim false d is = rw is refl
 
-    by : (w : Work) → scope w ≡ Tx k → is_some (sent_as (untested can) (asking text params (aim_of w)) (next_inside can bad (asking text params (aim_of w)) [])) ≡ true
-    by (Execute (Tx j)) x = either aims.Execute can.fast_exec _ (first_exec can bad text params can.fast_exec refl)
-    by (ReadOne (Tx j) dests) x = either aims.ReadOne can.fast_query _ (first_one can bad text params can.fast_query refl)
-    by (HandOut (Tx j) label) x = either aims.HandOut can.fast_query _ (first_out can bad text params can.fast_query refl)
+    by : (w : Work) → scope w ≡ Held k → is_some (sent_as (untested can) (asking text params (aim_of w)) (next_inside can bad (asking text params (aim_of w)) [])) ≡ true
+    by (Statement (Held j) Execute) x = either aims.Execute can.fast_exec _ (first_exec can bad text params can.fast_exec refl)
+    by (Statement (Held j) (ReadOne dests)) x = either aims.ReadOne can.fast_query _ (first_one can bad text params can.fast_query refl)
+    by (Statement (Held j) (HandOut label)) x = either aims.HandOut can.fast_query _ (first_out can bad text params can.fast_query refl)
     by w x = absurd cc
 inner_sends can bad text params it k made s (inl (inr skipped)) = rw (skipped, second can bad text params (aim_of it) (text_of it k s)) refl
 inner_sends can bad text params it k made s (inr (inl p)) = rw (p.is, third can bad text params (aim_of it) p.handle p.inputs p.rest (text_of it k s) p.before p.counts) refl

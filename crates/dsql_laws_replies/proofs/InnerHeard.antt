@@ -23,7 +23,7 @@ use Rattle.dsql_laws_calls.specs.works.Line.{sent_over, handed, body_with, body_
 use Rattle.dsql_laws_calls.proofs.laws_work.MadeLines.{asking}
 use Rattle.dsql_laws_calls.proofs.laws.Tests.{both}
 use Rattle.dsql_laws_calls.specs.history.declared.reply.Reply.{Reply}
-use Rattle.dsql_laws_calls.specs.history.declared.work.Scope.TheVariants.{Tx}
+use Rattle.dsql_laws_calls.specs.history.declared.work.Scope.TheVariants.{Held}
 use Rattle.dsql_laws_calls.specs.history.declared.work.Work.{Work}
 use Rattle.dsql_laws_calls.specs.history.Readers.Lines.{is_about}
 use Rattle.dsql_laws_calls.specs.history.Readers.Works.{scope, aim_of}
@@ -102,7 +102,7 @@ handing aims.HandOut made rows h = refl
 handing _ made rows h = absurd cc
 
 -- What the call's own answer makes of it, by the exchanges in its line.
-pub own_outcome : (number : ℕ) (can : Caps) (bad : Bool) (text : List ℕ) (params : List Param) (it : Work) (k : ℕ) (made : List Exchange) (q : DriverCall) (a : DriverAnswer) (d : Option Reply) → scope it ≡ Tx k
+pub own_outcome : (number : ℕ) (can : Caps) (bad : Bool) (text : List ℕ) (params : List Param) (it : Work) (k : ℕ) (made : List Exchange) (q : DriverCall) (a : DriverAnswer) (d : Option Reply) → scope it ≡ Held k
     → Awaiting can (aim_of it) (length params) made ⊎ ((is_some d ≡ true) × Over can (aim_of it) (length params) made)
     → is_due (body_after (untested can) bad (asking text params (aim_of it)) wishes.Nothing made) q ≡ true → fits_of q a ≡ true → is_memory a ≡ false → Outcome number can (length params) it q a d made
 own_outcome number can bad text params it k made q a d s (inl w) h fit heard =

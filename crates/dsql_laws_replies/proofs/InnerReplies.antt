@@ -20,9 +20,9 @@ use Rattle.dsql_laws_calls.specs.history.Rules.Wishes.{newest_sender}
 use Rattle.dsql_laws_calls.proofs.laws.Tests.{same_itself}
 use Rattle.dsql_laws_calls.specs.history.declared.event.Event.{Event}
 use Rattle.dsql_laws_calls.specs.history.declared.event.Event.TheVariants.{Heard}
-use Rattle.dsql_laws_calls.specs.history.declared.work.Scope.TheVariants.{Tx}
+use Rattle.dsql_laws_calls.specs.history.declared.work.Scope.TheVariants.{Held}
 use Rattle.dsql_laws_calls.specs.history.declared.work.Work.{Work}
-use Rattle.dsql_laws_calls.specs.history.declared.work.Work.TheVariants.{Execute, ReadOne, HandOut}
+use Rattle.dsql_laws_calls.specs.history.declared.work.Work.TheVariants.{Statement}
 use Rattle.dsql_laws_calls.specs.history.Readers.Course.{caps}
 use Rattle.dsql_laws_calls.specs.history.Readers.Calls.{decided}
 use Rattle.dsql_laws_calls.specs.history.Readers.Decisions.{decision}
@@ -81,7 +81,7 @@ unsent_still H e n other unsent c = by (e.conn == c)
     by true = ap (λ x. x || has_sent n (journal H c)) other ∙ unsent c
     by false = unsent c
 
-pub inner_other : (H : List Event) (e : Entry) (n k : ℕ) → Lawful (Heard e ∷ H) → is_unfinished H n ≡ true → scope (work H n) ≡ Tx k → (e.call_no == n) ≡ false → n ≢ e.call_no → Inner H n k → Inner (Heard e ∷ H) n k
+pub inner_other : (H : List Event) (e : Entry) (n k : ℕ) → Lawful (Heard e ∷ H) → is_unfinished H n ≡ true → scope (work H n) ≡ Held k → (e.call_no == n) ≡ false → n ≢ e.call_no → Inner H n k → Inner (Heard e ∷ H) n k
 inner_other H e n k l u s other apart i = by i
   where
     same : is_some (decided (Heard e ∷ H) n) ≡ is_some (decided H n)
@@ -91,7 +91,7 @@ inner_other H e n k l u s other apart i = by i
     turn a here w owner =
         let tenure = same_lent e.tenure a.tenure w.owner a.owner (sym w.lent ∙ (ap (place H) here ∙ a.lent)) in
         let newest : newest_sender (heard_in H e.conn e.tenure) ≡ n = subst (λ d. newest_sender (heard_in H d e.tenure) ≡ n) (sym here) (subst (λ v. newest_sender (heard_in H a.conn v) ≡ n) (sym tenure.0) a.newest) in
-        let within : scope (work H n) ≡ Tx (number_of w.owner) = s ∙ ap Tx (sym (ap number_of owner ∙ a.number)) in
+        let within : scope (work H n) ≡ Held (number_of w.owner) = s ∙ ap Held (sym (ap number_of owner ∙ a.number)) in
         let silent = w.turn n apart newest within u in
         let here_silent : is_some (line_there H a.conn a.tenure a.owner n wishes.Nothing) ≡ false =
         subst (λ o. is_some (line_there H a.conn a.tenure o n wishes.Nothing) ≡ false) owner
@@ -121,10 +121,8 @@ inner_other H e n k l u s other apart i = by i
 
 -- The answer is for the call itself.
 
-no_again : (w : Work) (k number : ℕ) → scope w ≡ Tx k → tries_again w number ≡ false
-no_again (Execute (Tx j)) k number s = refl
-no_again (ReadOne (Tx j) dests) k number s = refl
-no_again (HandOut (Tx j) label) k number s = refl
+no_again : (w : Work) (k number : ℕ) → scope w ≡ Held k → tries_again w number ≡ false
+no_again (Statement (Held j) task) k number s = refl
 no_again w k number s = absurd cc
 
 -- A call that has handed out no rows after an exchange had handed out none before it.
@@ -144,10 +142,10 @@ record OwnAnswer (H : List Event) (e : Entry) (n k : ℕ) : Type 0 where
   begun : is_begun H k ≡ true
   way : InsideWay H e.conn e.tenure owner n e.call
 
-own_answer : (H : List Event) (e : Entry) (n k : ℕ) → Lawful (Heard e ∷ H) → e.call_no ≡ n → scope (work H n) ≡ Tx k → OwnAnswer H e n k
+own_answer : (H : List Event) (e : Entry) (n k : ℕ) → Lawful (Heard e ∷ H) → e.call_no ≡ n → scope (work H n) ≡ Held k → OwnAnswer H e n k
 own_answer H e n k l mine s =
     let there = heard_there H e l.1 in
-    let mine_in : scope (work H e.call_no) ≡ Tx k = ap (λ j. scope (work H j)) mine ∙ s in
+    let mine_in : scope (work H e.call_no) ≡ Held k = ap (λ j. scope (work H j)) mine ∙ s in
     let numbered = number_not H e.call_no k mine_in in
     let may = comes H e (place H e.conn) there.sets there.line numbered in
     let i = inside H l.0 in
@@ -159,10 +157,10 @@ own_answer H e n k l mine s =
       lent = w.lent;
       number = number;
       begun = i.coming e k may mine_in;
-      way = subst (λ j. InsideWay H e.conn e.tenure w.owner j e.call) mine (w.within (mine_in ∙ ap Tx (sym number)));
+      way = subst (λ j. InsideWay H e.conn e.tenure w.owner j e.call) mine (w.within (mine_in ∙ ap Held (sym number)));
     }
 
-pub inner_own : (H : List Event) (e : Entry) (n k : ℕ) → Lawful (Heard e ∷ H) → e.call_no ≡ n → n ≢ 0 → scope (work H n) ≡ Tx k → Inner H n k → Inner (Heard e ∷ H) n k
+pub inner_own : (H : List Event) (e : Entry) (n k : ℕ) → Lawful (Heard e ∷ H) → e.call_no ≡ n → n ≢ 0 → scope (work H n) ≡ Held k → Inner H n k → Inner (Heard e ∷ H) n k
 inner_own H e n k l mine some s i = by (own_answer H e n k l mine s)
   where
     by : OwnAnswer H e n k → Inner (Heard e ∷ H) n k

@@ -14,9 +14,9 @@ use Rattle.dsql_laws_calls.specs.history.declared.event.Op.TheVariants as ops
 use Rattle.dsql_laws_calls.specs.history.declared.event.Target.TheVariants as targets
 use Rattle.dsql_laws_calls.specs.history.declared.reply.Reply.{Reply}
 use Rattle.dsql_laws_calls.specs.history.declared.reply.Reply.TheVariants.{Absent}
-use Rattle.dsql_laws_calls.specs.history.declared.work.Scope.TheVariants.{Tx}
+use Rattle.dsql_laws_calls.specs.history.declared.work.Scope.TheVariants.{Held}
 use Rattle.dsql_laws_calls.specs.history.declared.work.Work.{Work}
-use Rattle.dsql_laws_calls.specs.history.declared.work.Work.TheVariants.{Execute, ReadOne, HandOut}
+use Rattle.dsql_laws_calls.specs.history.declared.work.Work.TheVariants.{Statement}
 use Rattle.dsql_laws_calls.specs.history.Readers.Calls.{calls, decided, is_there, done_with, tx_refused, told_at_entry, told_by_others, told_at_lending, told_of_work, has_begun_to_send, reply_due, site}
 use Rattle.dsql_laws_calls.specs.history.Readers.Journals.{journal, heard_in}
 use Rattle.dsql_laws_calls.specs.history.Readers.Lines.{has_sent, line_among}
@@ -57,10 +57,10 @@ first_told : (o p : Option Reply) → is_some o ≡ true → is_some (or_else o 
 first_told None p h = absurd cc
 first_told (Some r) p h = refl
 
-entering : (H : List Event) (op : Op) (k : ℕ) → scope (work_of (works H) op) ≡ Tx k → (is_some (told_at_entry H op) ≡ true) ⊎ (is_begun H k ≡ true)
+entering : (H : List Event) (op : Op) (k : ℕ) → scope (work_of (works H) op) ≡ Held k → (is_some (told_at_entry H op) ≡ true) ⊎ (is_begun H k ≡ true)
 entering H op k s = by op s
   where
-    told : (tx : List ℕ) (o : Option Reply) → Tx (tx_maker (works H) tx) ≡ Tx k → (is_some (or_else (tx_refused H tx) o) ≡ true) ⊎ (is_begun H k ≡ true)
+    told : (tx : List ℕ) (o : Option Reply) → Held (tx_maker (works H) tx) ≡ Held k → (is_some (or_else (tx_refused H tx) o) ≡ true) ⊎ (is_begun H k ≡ true)
     told tx o same =
         let number : tx_maker (works H) tx ≡ k = cc in
         elim (refused_or H tx) [
@@ -68,13 +68,13 @@ entering H op k s = by op s
           | inr begun ↦ inr (subst (λ j. is_begun H j ≡ true) number begun)
         ]
 
-    by : (x : Op) → scope (work_of (works H) x) ≡ Tx k → (is_some (told_at_entry H x) ≡ true) ⊎ (is_begun H k ≡ true)
+    by : (x : Op) → scope (work_of (works H) x) ≡ Held k → (is_some (told_at_entry H x) ≡ true) ⊎ (is_begun H k ≡ true)
     by (ops.Exec (targets.Label tx) text args) is = told tx _ is
     by (ops.Query label (targets.Label tx) text args) is = told tx _ is
     by (ops.One (targets.Label tx) dests text args) is = told tx _ is
     by x is = absurd cc
 
-inner_entered : (H : List Event) (client m : ℕ) (op : Op) (k : ℕ) → Lawful (Entered client m op ∷ H) → m ≢ 0 → scope (work (Entered client m op ∷ H) m) ≡ Tx k → Inner (Entered client m op ∷ H) m k
+inner_entered : (H : List Event) (client m : ℕ) (op : Op) (k : ℕ) → Lawful (Entered client m op ∷ H) → m ≢ 0 → scope (work (Entered client m op ∷ H) m) ≡ Held k → Inner (Entered client m op ∷ H) m k
 inner_entered H client m op k l some s = inl (unsent, by (entering H op k (ap scope (sym (new_work H client m op new)) ∙ s)))
   where
     new : m ≡ length (calls H)
@@ -91,16 +91,16 @@ inner_entered H client m op k l some s = inl (unsent, by (entering H op k (ap sc
     by (inl told) = inl (ap (λ r. is_some r.decided) (new_record H client m op new) ∙ told)
     by (inr begun) = inr (stays_begun H (Entered client m op) k begun)
 
-inner : (H : List Event) (n k : ℕ) → Lawful H → n ≢ 0 → is_unfinished H n ≡ true → scope (work H n) ≡ Tx k → Inner H n k
+inner : (H : List Event) (n k : ℕ) → Lawful H → n ≢ 0 → is_unfinished H n ≡ true → scope (work H n) ≡ Held k → Inner H n k
 inner [] n k l some u s = absurd cc
 inner (Entered client m op ∷ H) n k l some u s = by (inner H n k l.0 some) (same_or_not n m)
   where
-    by : (is_unfinished H n ≡ true → scope (work H n) ≡ Tx k → Inner H n k) → (n ≡ m) ⊎ (n ≢ m) → Inner (Entered client m op ∷ H) n k
+    by : (is_unfinished H n ≡ true → scope (work H n) ≡ Held k → Inner H n k) → (n ≡ m) ⊎ (n ≢ m) → Inner (Entered client m op ∷ H) n k
     by rest (inl same) =
         subst (λ j. Inner (Entered client m op ∷ H) j k) (sym same)
         (inner_entered H client m op k l (λ none. some (same ∙ none)) (ap (λ j. scope (work (Entered client m op ∷ H) j)) (sym same) ∙ s))
     by rest (inr apart) =
-        let was : scope (work H n) ≡ Tx k = ap scope (sym (old_work H client m op n (enters_next H client m op l.1) apart)) ∙ s in
+        let was : scope (work H n) ≡ Held k = ap scope (sym (old_work H client m op n (enters_next H client m op l.1) apart)) ∙ s in
         inner_quiet H (Entered client m op) n k l refl u was (rest (sym (old_unfinished H client m op n apart) ∙ u) was)
 inner (Heard e ∷ H) n k l some u s = by (e.call_no == n) refl (inner H n k l.0 some u s)
   where
@@ -112,35 +112,31 @@ inner (e ∷ H) n k l some u s = inner_quiet H e n k l refl u s (inner H n k l.0
 
 -- What is due for the call, and the reply that the end of its transaction gives it.
 
-due_scoped : (H : List Event) (n k : ℕ) (w : Work) → scope w ≡ Tx k → due_in H n w ≡ cond (sends_in H n k) (line_of H n wishes.Nothing) None
+due_scoped : (H : List Event) (n k : ℕ) (w : Work) → scope w ≡ Held k → due_in H n w ≡ cond (sends_in H n k) (line_of H n wishes.Nothing) None
 due_scoped H n k w s = by w s
   where
-    at : (j : ℕ) → Tx j ≡ Tx k → cond (sends_in H n j) (line_of H n wishes.Nothing) None ≡ cond (sends_in H n k) (line_of H n wishes.Nothing) None
+    at : (j : ℕ) → Held j ≡ Held k → cond (sends_in H n j) (line_of H n wishes.Nothing) None ≡ cond (sends_in H n k) (line_of H n wishes.Nothing) None
     at j same = let number : j ≡ k = cc in ap (λ i. cond (sends_in H n i) (line_of H n wishes.Nothing) None) number
 
-    by : (v : Work) → scope v ≡ Tx k → due_in H n v ≡ cond (sends_in H n k) (line_of H n wishes.Nothing) None
-    by (Execute (Tx j)) x = at j x
-    by (ReadOne (Tx j) dests) x = at j x
-    by (HandOut (Tx j) label) x = at j x
+    by : (v : Work) → scope v ≡ Held k → due_in H n v ≡ cond (sends_in H n k) (line_of H n wishes.Nothing) None
+    by (Statement (Held j) task) x = at j x
     by v x = absurd cc
 
-told_scoped : (H : List Event) (n k : ℕ) (w : Work) → scope w ≡ Tx k → told_of_work H n w ≡ cond (has_begun_to_send H n) None (done_with (tx_end H k))
+told_scoped : (H : List Event) (n k : ℕ) (w : Work) → scope w ≡ Held k → told_of_work H n w ≡ cond (has_begun_to_send H n) None (done_with (tx_end H k))
 told_scoped H n k w s = by w s
   where
-    at : (j : ℕ) → Tx j ≡ Tx k → cond (has_begun_to_send H n) None (done_with (tx_end H j)) ≡ cond (has_begun_to_send H n) None (done_with (tx_end H k))
+    at : (j : ℕ) → Held j ≡ Held k → cond (has_begun_to_send H n) None (done_with (tx_end H j)) ≡ cond (has_begun_to_send H n) None (done_with (tx_end H k))
     at j same = let number : j ≡ k = cc in ap (λ i. cond (has_begun_to_send H n) None (done_with (tx_end H i))) number
 
-    by : (v : Work) → scope v ≡ Tx k → told_of_work H n v ≡ cond (has_begun_to_send H n) None (done_with (tx_end H k))
-    by (Execute (Tx j)) x = at j x
-    by (ReadOne (Tx j) dests) x = at j x
-    by (HandOut (Tx j) label) x = at j x
+    by : (v : Work) → scope v ≡ Held k → told_of_work H n v ≡ cond (has_begun_to_send H n) None (done_with (tx_end H k))
+    by (Statement (Held j) task) x = at j x
     by v x = absurd cc
 
 done_told : (o : Option TxEnd) → is_some o ≡ true → is_some (done_with o) ≡ true
 done_told None h = absurd cc
 done_told (Some end) h = refl
 
-pub inside_replies : (H : List Event) (n k : ℕ) → Lawful H → is_unfinished H n ≡ true → scope (work H n) ≡ Tx k → is_some (due_for H n) ≡ false → is_some (reply_due H n) ≡ true
+pub inside_replies : (H : List Event) (n k : ℕ) → Lawful H → is_unfinished H n ≡ true → scope (work H n) ≡ Held k → is_some (due_for H n) ≡ false → is_some (reply_due H n) ≡ true
 inside_replies H n k l u s none = by (decided H n) refl (inner H n k l (unfinished_from_one H n l u) u s)
   where
     told : is_some (decided H n) ≡ true → is_some (reply_due H n) ≡ true

@@ -23,7 +23,7 @@ use Rattle.dsql_laws_calls.proofs.laws.Tests.{both, same_number}
 use Rattle.dsql_laws_calls.specs.history.declared.event.Event.{Event}
 use Rattle.dsql_laws_calls.specs.history.declared.reply.Reply.{Reply}
 use Rattle.dsql_laws_calls.specs.history.declared.work.Scope.{Scope}
-use Rattle.dsql_laws_calls.specs.history.declared.work.Scope.TheVariants.{Db, Tx}
+use Rattle.dsql_laws_calls.specs.history.declared.work.Scope.TheVariants.{Db, Held}
 use Rattle.dsql_laws_calls.specs.history.declared.work.Work.{Work}
 use Rattle.dsql_laws_calls.specs.history.declared.work.Work.TheVariants.{Ping, Fetch, Close, End, Look}
 use Rattle.dsql_laws_calls.specs.history.Readers.Calls.{asks_nothing, decided, reply_due, rests, told_at_lending, told_by_others, told_of_work}
@@ -131,7 +131,7 @@ nowhere_replies H n l u none unwanting used may dead = by (decided H n) refl
 
     stating : decided H n ≡ None → (s : Scope) → scope (work H n) ≡ s → is_elsewhere (work H n) ≡ not (asks_in s) → is_some (reply_due H n) ≡ true
     stating undecided Db is elsewhere = on_database undecided elsewhere (was_served (tries H n)) refl
-    stating undecided (Tx k) is elsewhere = inside_replies H n k l u is none
+    stating undecided (Held k) is elsewhere = inside_replies H n k l u is none
 
     of_work : decided H n ≡ None → (w : Work) → work H n ≡ w → is_some (reply_due H n) ≡ true
     of_work undecided (Fetch k) is = fetch_replies H n k l u is (dead k is)

@@ -24,7 +24,8 @@ use Rattle.dsql_laws_calls.specs.history.declared.event.Event.{Event}
 use Rattle.dsql_laws_calls.specs.history.declared.event.Event.TheVariants.{Heard}
 use Rattle.dsql_laws_calls.specs.history.declared.reply.Reply.{Reply}
 use Rattle.dsql_laws_calls.specs.history.declared.work.Work.{Work}
-use Rattle.dsql_laws_calls.specs.history.declared.work.Work.TheVariants.{HandOut, Fetch}
+use Rattle.dsql_laws_calls.specs.history.declared.work.Task.TheVariants.{HandOut}
+use Rattle.dsql_laws_calls.specs.history.declared.work.Work.TheVariants.{Statement, Fetch}
 use Rattle.dsql_laws_calls.specs.history.Readers.Calls.{decided}
 use Rattle.dsql_laws_calls.specs.history.Readers.Course.{caps}
 use Rattle.dsql_laws_calls.specs.history.Readers.Decisions.{decision, Trying}
@@ -58,7 +59,7 @@ none_some (Some x) none some = absurd cc
 -- The answer that makes the rows decides a reply: their columns.
 new_told : (H : List Event) (t : Trying) (m : ℕ) (it : Work) (q : DriverCall) (a : DriverAnswer) (d : Option Reply) (R : Made) → rows_of m R ≡ None → is_some (rows_of m (rows_heard H it m q a R)) ≡ true
     → is_some (decision (record t { work = it }) q a d) ≡ true
-new_told H t m (HandOut s label) (Query input params) (answers.Cursor cursor columns) d R none some = refl
+new_told H t m (Statement s (HandOut label)) (Query input params) (answers.Cursor cursor columns) d R none some = refl
 new_told H t m (Fetch k) (Next cursor) a d R none some = none_some (rows_of m R) none (sym (some_changed (fetched a) k m R) ∙ some)
 new_told H t m _ q a d R none some = none_some (rows_of m R) none some
 
@@ -66,15 +67,15 @@ new_told H t m _ q a d R none some = none_some (rows_of m R) none some
 
 over_keeps : (t : Trying) (over : Bool) (it : Work) (q : DriverCall) (a : DriverAnswer) (d : Option Reply) → hands_out it ≡ true → SentOver q wishes.Nothing over → is_some d ≡ true
     → is_some (decision (record t { work = it }) q a d) ≡ true
-over_keeps t over (HandOut s label) (Next rows) a d hands sent h = let clash = sent.0 in absurd cc
-over_keeps t over (HandOut s label) (CloseRows rows) a d hands sent h = closing_decides t.number a d h
-over_keeps t over (HandOut s label) (CloseStmt handle) a d hands sent h = h
-over_keeps t over (HandOut s label) Valid a d hands sent h = h
-over_keeps t over (HandOut s label) q a d hands sent h = absurd sent
+over_keeps t over (Statement s (HandOut label)) (Next rows) a d hands sent h = let clash = sent.0 in absurd cc
+over_keeps t over (Statement s (HandOut label)) (CloseRows rows) a d hands sent h = closing_decides t.number a d h
+over_keeps t over (Statement s (HandOut label)) (CloseStmt handle) a d hands sent h = h
+over_keeps t over (Statement s (HandOut label)) Valid a d hands sent h = h
+over_keeps t over (Statement s (HandOut label)) q a d hands sent h = absurd sent
 over_keeps t over it q a d hands sent h = absurd cc
 
 hands_aim : (it : Work) → hands_out it ≡ true → aim_of it ≡ aims.HandOut
-hands_aim (HandOut s label) h = refl
+hands_aim (Statement s (HandOut label)) h = refl
 hands_aim it h = absurd cc
 
 some_of : {X : Type 0} (o : Option X) → is_some o ≡ true → (x : X) × (o ≡ Some x)

@@ -27,6 +27,7 @@ use Rattle.dsql_laws_calls.specs.history.declared.event.Event.TheVariants.{Run, 
 use Rattle.dsql_laws_calls.specs.history.declared.reply.Reply.{Reply}
 use Rattle.dsql_laws_calls.specs.history.declared.reply.Reply.TheVariants as reply
 use Rattle.dsql_laws_calls.specs.history.declared.work.Work.{Work}
+use Rattle.dsql_laws_calls.specs.history.declared.work.Task.TheVariants as tasks
 use Rattle.dsql_laws_calls.specs.history.declared.work.Work.TheVariants as works_of
 use Rattle.dsql_laws_calls.specs.history.Readers.Course.{caps}
 use Rattle.dsql_laws_calls.specs.history.Readers.Calls.{decided, told_by_others, told_as_lent, told_at_lending, reply_due}
@@ -284,6 +285,9 @@ served_decides H n l u h needs none = by (settles H n l (unfinished_from_one H n
 -- A ping that needs no answer has its reply as it gets its connection.
 told_lent : (can : Caps) (it : Work) (ts : List Try) → needs_answer can (aim_of it) ≡ false → was_served ts ≡ true → is_some (told_as_lent can it ts) ≡ true
 told_lent can works_of.Ping (Served ∷ earlier) needless h = ap (λ (b : Bool). is_some (cond b None (Some reply.Ok))) needless
+told_lent can (works_of.Statement s tasks.Execute) ts needless h = absurd cc
+told_lent can (works_of.Statement s (tasks.ReadOne dests)) ts needless h = absurd cc
+told_lent can (works_of.Statement s (tasks.HandOut label)) ts needless h = absurd cc
 told_lent can _ _ needless h = absurd cc
 
 lent_settled : (o p q : Option Reply) → is_some q ≡ true → is_some (or_else (or_else o p) q) ≡ true

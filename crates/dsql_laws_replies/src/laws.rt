@@ -3,7 +3,7 @@ ghost use Rattle.std.specs.Prelude.{◌≡◌, ℕ, true, false, List, is_some};
 ghost use Rattle.dsql_laws_calls.specs.pool.Calls.{wants};
 ghost use Rattle.dsql_laws_calls.specs.history.Readers.Tries.{was_served, tries};
 ghost use Rattle.dsql_laws_calls.specs.history.declared.event.Event.{Event};
-ghost use Rattle.dsql_laws_calls.specs.history.declared.work.Scope.TheVariants.{Tx};
+ghost use Rattle.dsql_laws_calls.specs.history.declared.work.Scope.TheVariants.{Held};
 ghost use Rattle.dsql_laws_calls.specs.history.declared.work.Work.TheVariants.{End, Fetch};
 ghost use Rattle.dsql_laws_calls.specs.history.Readers.Calls.{reply_due};
 ghost use Rattle.dsql_laws_calls.specs.history.Readers.HandedOut.{are_live};
@@ -29,7 +29,7 @@ pub fn who_is_nowhere_replies()
         → is_some (reply_due history n) ≡ true }
     ensures inside { (history : List Event) (n k : ℕ) → Lawful history → is_unfinished history n ≡ true
         → scope (work history n)
-        ≡ Tx k → is_some (due_for history n) ≡ false → is_some (reply_due history n) ≡ true }
+        ≡ Held k → is_some (due_for history n) ≡ false → is_some (reply_due history n) ≡ true }
     ensures ends { (history : List Event) (n k : ℕ) → Lawful history → is_unfinished history n ≡ true
         → work history n ≡ End k
         → is_some (due_for history n) ≡ false → is_some (reply_due history n) ≡ true }

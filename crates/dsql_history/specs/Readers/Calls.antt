@@ -25,7 +25,7 @@ use Rattle.dsql_history.specs.declared.reply.Reply.{Reply}
 use Rattle.dsql_history.specs.declared.reply.Reply.TheVariants as reply
 use Rattle.dsql_history.specs.declared.reply.Reply.TheVariants.{Truth, Absent, TxDone, DbClosed}
 use Rattle.dsql_history.specs.declared.work.Scope.{Scope}
-use Rattle.dsql_history.specs.declared.work.Scope.TheVariants.{Db, Tx}
+use Rattle.dsql_history.specs.declared.work.Scope.TheVariants.{Db, Held}
 use Rattle.dsql_history.specs.declared.work.Work.{Work}
 use Rattle.dsql_history.specs.declared.work.Work.TheVariants.{Fetch, Close, End, Look}
 use Rattle.dsql_history.specs.declared.work.Work.TheVariants as works_of
@@ -177,7 +177,7 @@ told_by_tx_end before n k = cond (has_begun_to_send before n) None (done_with (t
 -- transaction the transaction's end.
 abbrev pub told_by_scope : List Event → ℕ → Work → Scope → Option Reply
 told_by_scope before n work Db = told_by_tries before work (tries before n)
-told_by_scope before n work (Tx k) = told_by_tx_end before n k
+told_by_scope before n work (Held k) = told_by_tx_end before n k
 
 -- Returns the reply that others have settled for call n, if any. For a fetch of rows that they ended, it is
 -- that there is no row. For a close, it is that nothing is left to close.

@@ -26,7 +26,8 @@ use Rattle.dsql_history.specs.declared.reply.Reply.{Reply}
 use Rattle.dsql_history.specs.declared.reply.Reply.TheVariants as reply
 use Rattle.dsql_history.specs.declared.reply.Reply.TheVariants.{Result, Truth, Cells, Driver, BadConn, NumArgs, HighBit, NamedRefused, BadName, Absent, RowsClosed, NoNextYet, NoRows, DestCount, Scan, Isolation, ReadOnly}
 use Rattle.dsql_history.specs.declared.work.Work.{Work}
-use Rattle.dsql_history.specs.declared.work.Work.TheVariants.{ReadOne, HandOut, Fetch, Close}
+use Rattle.dsql_history.specs.declared.work.Task.TheVariants.{ReadOne, HandOut}
+use Rattle.dsql_history.specs.declared.work.Work.TheVariants.{Statement, Fetch, Close}
 
 -- Returns the text of an operation's statement, empty if it has none.
 abbrev pub statement : Op → List ℕ
@@ -120,13 +121,13 @@ reply_to again number _ = None
 
 -- Returns the reply that the answer to a query decides. A query that hands out rows replies their columns.
 abbrev pub query_decision : Bool → ℕ → Work → DriverAnswer → Option Reply
-query_decision again number (HandOut it label) (answers.Cursor cursor columns) = Some (reply.Rows columns)
+query_decision again number (Statement it (HandOut label)) (answers.Cursor cursor columns) = Some (reply.Rows columns)
 query_decision again number work answer = reply_to again number answer
 
 -- Returns the reply that the answer to a fetch decides: the row that the call was to read, or whether there was
 -- a row. That there is no row is an answer too.
 abbrev pub fetch_decision : Bool → ℕ → Work → DriverAnswer → Option Reply
-fetch_decision again number (ReadOne it dests) (answers.Row values) = told_row (row_of values dests)
+fetch_decision again number (Statement it (ReadOne dests)) (answers.Row values) = told_row (row_of values dests)
 fetch_decision again number (Fetch k) (answers.Row values) = Some (Truth true)
 fetch_decision again number (Fetch k) answer = Some (Truth false)
 fetch_decision again number work answers.End = Some NoRows

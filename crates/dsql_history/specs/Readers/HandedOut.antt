@@ -15,9 +15,10 @@ use Rattle.dsql_history.specs.declared.event.Event.TheVariants.{Entered, Heard, 
 use Rattle.dsql_history.specs.declared.event.Op.{Op}
 use Rattle.dsql_history.specs.declared.event.Op.TheVariants.{RowsClose, Commit, Rollback}
 use Rattle.dsql_history.specs.declared.work.Scope.{Scope}
-use Rattle.dsql_history.specs.declared.work.Scope.TheVariants.{Db, Tx}
+use Rattle.dsql_history.specs.declared.work.Scope.TheVariants.{Db, Held}
 use Rattle.dsql_history.specs.declared.work.Work.{Work}
-use Rattle.dsql_history.specs.declared.work.Work.TheVariants.{HandOut, Fetch}
+use Rattle.dsql_history.specs.declared.work.Task.TheVariants.{HandOut}
+use Rattle.dsql_history.specs.declared.work.Work.TheVariants.{Statement, Fetch}
 use Rattle.dsql_history.specs.Readers.Unfinished.{is_unfinished}
 use Rattle.dsql_history.specs.Readers.Works.{works, work, rows_maker, tx_maker, scope, hands_out_in}
 use Rattle.dsql_history.specs.Readers.Transactions.{is_over}
@@ -44,12 +45,12 @@ born too_late rows = cond too_late (ended_by ends.TxEnded rows) rows
 -- Is true if rows of this scope belong to a transaction that has ended.
 abbrev pub is_late : List Event → Scope → Bool
 is_late before Db = false
-is_late before (Tx k) = is_over before k
+is_late before (Held k) = is_over before k
 
 -- Returns the rows after an answer to call n. A query's cursor makes its rows, and a fetch changes the rows
 -- that it fetches from.
 abbrev pub rows_heard : List Event → Work → ℕ → DriverCall → DriverAnswer → Made → Made
-rows_heard before (HandOut it label) n (Query input params) (Cursor cursor columns) rows =
+rows_heard before (Statement it (HandOut label)) n (Query input params) (Cursor cursor columns) rows =
     rows ++ (n, born (is_late before it) (fresh cursor columns)) ∷ []
 rows_heard before (Fetch k) n (Next cursor) answer rows = changed (fetched answer) k rows
 rows_heard before _ n call answer rows = rows
@@ -78,7 +79,7 @@ rows_entered before op rows = rows
 -- all other rows.
 abbrev pub last_end : Scope → RowsEnd
 last_end Db = ends.EndOfRun
-last_end (Tx k) = ends.TxEnded
+last_end (Held k) = ends.TxEnded
 
 abbrev pub rows_at_end : List Event → Made → Made
 rows_at_end before rows = map (λ it. (it.0, ended_by (last_end (scope (work before it.0))) it.1)) rows

@@ -13,7 +13,8 @@ use Rattle.dsql_pool.specs.declared.moves.Move.TheVariants.{Lend, Fell}
 use Rattle.dsql_history.specs.declared.event.Event.{Event}
 use Rattle.dsql_history.specs.declared.event.Event.TheVariants.{Heard, Pool}
 use Rattle.dsql_history.specs.declared.work.Work.{Work}
-use Rattle.dsql_history.specs.declared.work.Work.TheVariants.{ReadOne}
+use Rattle.dsql_history.specs.declared.work.Task.TheVariants.{ReadOne}
+use Rattle.dsql_history.specs.declared.work.Work.TheVariants.{Statement}
 use Rattle.dsql_history.specs.Readers.Works.{work, asks}
 
 -- Returns the most tries that a call has.
@@ -76,7 +77,7 @@ is_tried work (Prepare text) = true
 is_tried work (Exec input params) = true
 is_tried work (Query input params) = true
 is_tried work (calls.Begin level read_only) = true
-is_tried (ReadOne scope dests) (Next rows) = true
+is_tried (Statement scope (ReadOne dests)) (Next rows) = true
 is_tried work call = false
 
 -- Is true if the answer says that the connection of this try is bad.

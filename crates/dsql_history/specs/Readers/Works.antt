@@ -12,13 +12,14 @@ use Rattle.dsql_history.specs.declared.event.Op.TheVariants as ops
 use Rattle.dsql_history.specs.declared.event.Target.{Target}
 use Rattle.dsql_history.specs.declared.event.Target.TheVariants as targets
 use Rattle.dsql_history.specs.declared.work.Scope.{Scope}
-use Rattle.dsql_history.specs.declared.work.Scope.TheVariants.{Db, Tx}
+use Rattle.dsql_history.specs.declared.work.Scope.TheVariants.{Db, Held}
 use Rattle.dsql_history.specs.declared.work.Work.{Work}
-use Rattle.dsql_history.specs.declared.work.Work.TheVariants.{Execute, ReadOne, HandOut, Begin, End, Ping, Fetch, Close, Look}
+use Rattle.dsql_history.specs.declared.work.Task.TheVariants.{Execute, ReadOne, HandOut}
+use Rattle.dsql_history.specs.declared.work.Work.TheVariants.{Statement, Begin, End, Ping, Fetch, Close, Look}
 
 -- Is true if the work hands out rows under this label.
 abbrev pub hands_out_as : List ℕ → Work → Bool
-hands_out_as label (HandOut scope own) = bytes_eq own label
+hands_out_as label (Statement scope (HandOut own)) = bytes_eq own label
 hands_out_as label _ = false
 
 -- Is true if the work begins a transaction under this label.
@@ -36,12 +37,12 @@ tx_maker works label = or_zero (position (begins_as label) works)
 
 abbrev pub scope_of : List Work → Target → Scope
 scope_of works targets.Db = Db
-scope_of works (targets.Label tx) = Tx (tx_maker works tx)
+scope_of works (targets.Label tx) = Held (tx_maker works tx)
 
 abbrev pub work_of : List Work → Op → Work
-work_of works (ops.Exec target text args) = Execute (scope_of works target)
-work_of works (ops.Query label target text args) = HandOut (scope_of works target) label
-work_of works (ops.One target dests text args) = ReadOne (scope_of works target) dests
+work_of works (ops.Exec target text args) = Statement (scope_of works target) Execute
+work_of works (ops.Query label target text args) = Statement (scope_of works target) (HandOut label)
+work_of works (ops.One target dests text args) = Statement (scope_of works target) (ReadOne dests)
 work_of works (ops.Begin label level read_only) = Begin label level read_only
 work_of works (ops.Commit tx) = End (tx_maker works tx)
 work_of works (ops.Rollback tx) = End (tx_maker works tx)
@@ -62,32 +63,28 @@ work before n = slice_index_or (works before) n Look
 -- Returns the scope in which the work's statement is carried out. It has no meaning for work on rows or on
 -- transactions themselves.
 abbrev pub scope : Work → Scope
-scope (Execute it) = it
-scope (ReadOne it dests) = it
-scope (HandOut it label) = it
+scope (Statement it task) = it
 scope _ = Db
 
 -- Is true if the scope is transaction k.
 abbrev pub is_in : ℕ → Scope → Bool
-is_in k (Tx n) = n == k
+is_in k (Held n) = n == k
 is_in k Db = false
 
 -- Is true if a call in this scope asks for a connection of its own.
 abbrev pub asks_in : Scope → Bool
 asks_in Db = true
-asks_in (Tx k) = false
+asks_in (Held k) = false
 
 abbrev pub asks : Work → Bool
-asks (Execute it) = asks_in it
-asks (ReadOne it dests) = asks_in it
-asks (HandOut it label) = asks_in it
+asks (Statement it task) = asks_in it
 asks (Begin label level read_only) = true
 asks Ping = true
 asks _ = false
 
 -- Is true if the work hands out rows in transaction k.
 abbrev pub hands_out_in : ℕ → Work → Bool
-hands_out_in k (HandOut it label) = is_in k it
+hands_out_in k (Statement it (HandOut label)) = is_in k it
 hands_out_in k _ = false
 
 -- Is true if the work fetches a row.
@@ -97,8 +94,8 @@ is_fetch _ = false
 
 -- Returns the aim of the work: what the call does with its text.
 abbrev pub aim_of : Work → Aim
-aim_of (ReadOne it dests) = aims.ReadOne
-aim_of (HandOut it label) = aims.HandOut
+aim_of (Statement it (ReadOne dests)) = aims.ReadOne
+aim_of (Statement it (HandOut label)) = aims.HandOut
 aim_of Ping = aims.Ping
 aim_of _ = aims.Execute
 
@@ -106,7 +103,7 @@ aim_of _ = aims.Execute
 -- that began its transaction.
 abbrev pub borrower_in : Scope → ℕ → ℕ
 borrower_in Db n = n
-borrower_in (Tx k) n = k
+borrower_in (Held k) n = k
 
 -- Returns the call to which the pool lends the connection that call n uses. For rows it is the borrower of
 -- their query, for a transaction the call that began it.

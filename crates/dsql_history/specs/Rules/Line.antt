@@ -17,7 +17,7 @@ use Rattle.dsql_history.specs.Rules.Wishes.{newest_sender}
 use Rattle.dsql_history.specs.declared.event.Event.{Event}
 use Rattle.dsql_history.specs.declared.event.Event.TheVariants.{Heard, Pool, Replied}
 use Rattle.dsql_history.specs.declared.work.Scope.{Scope}
-use Rattle.dsql_history.specs.declared.work.Scope.TheVariants.{Db, Tx}
+use Rattle.dsql_history.specs.declared.work.Scope.TheVariants.{Db, Held}
 use Rattle.dsql_history.specs.declared.work.Work.{Work}
 use Rattle.dsql_history.specs.declared.work.Work.TheVariants.{Fetch, Close, End, Look}
 use Rattle.dsql_history.specs.Same.{same_level}
@@ -38,7 +38,7 @@ sends_in before m k = has_begun_to_send before m || (goes_on before k && is_none
 
 abbrev pub due_inside : List Event → ℕ → Scope → Option DriverCall
 due_inside before m Db = line_of before m wishes.Nothing
-due_inside before m (Tx k) = cond (sends_in before m k) (line_of before m wishes.Nothing) None
+due_inside before m (Held k) = cond (sends_in before m k) (line_of before m wishes.Nothing) None
 
 abbrev pub due_in : List Event → ℕ → Work → Option DriverCall
 due_in before m (Fetch k) = sent_for before k (wish before m k)

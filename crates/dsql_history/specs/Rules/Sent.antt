@@ -18,7 +18,7 @@ use Rattle.dsql_history_work.specs.Line.{test_of, Asked, body_after, line_after}
 use Rattle.dsql_history.specs.Rules.Wishes.{wish_as}
 use Rattle.dsql_history.specs.declared.event.Event.{Event}
 use Rattle.dsql_history.specs.declared.work.Scope.{Scope}
-use Rattle.dsql_history.specs.declared.work.Scope.TheVariants.{Db, Tx}
+use Rattle.dsql_history.specs.declared.work.Scope.TheVariants.{Db, Held}
 use Rattle.dsql_history.specs.declared.work.Work.{Work}
 use Rattle.dsql_history.specs.declared.work.Work.TheVariants as works_of
 use Rattle.dsql_history.specs.Readers.Course.{caps}
@@ -101,7 +101,7 @@ abbrev pub line_for : Work → Scope → Sender → List Entry → Option Driver
 line_for (works_of.Begin label level read_only) scope it line =
     begin_line it.can it.reset_due (Begin level read_only) line
 line_for work Db it line = db_line it line
-line_for work (Tx k) it line = tx_line it line
+line_for work (Held k) it line = tx_line it line
 
 abbrev pub line_with : Sender → List Entry → Option DriverCall
 line_with it line = line_for it.work (scope it.work) it line

@@ -15,8 +15,8 @@ returns-in-Db c =
     next_on_db (past c.args.self.now) c.args.call c.args.conn c.args.wish c.sends_next.result c.requires.stands.tables.lawful c.requires.lent c.requires.line (sym c.options.ensures ∙ c.in-None.is)
     (sym c.scope.ensures ∙ c.in-Db.is) c.sends_next.ensures
 
-pub returns-in-Tx : goal.returns-in-Tx
+pub returns-in-Held : goal.returns-in-Held
 unfolding Stands
-returns-in-Tx c =
-    next_in_tx (past c.args.self.now) c.args.call c.args.conn c.in-Tx.field-0 c.args.wish c.goes_next.result c.requires.stands.tables.lawful c.requires.lent (sym c.options.ensures ∙ c.in-None.is)
-    (sym c.scope.ensures ∙ c.in-Tx.is) c.goes_next.ensures
+returns-in-Held c =
+    next_in_tx (past c.args.self.now) c.args.call c.args.conn c.in-Held.field-0 c.args.wish c.goes_next.result c.requires.stands.tables.lawful c.requires.lent (sym c.options.ensures ∙ c.in-None.is)
+    (sym c.scope.ensures ∙ c.in-Held.is) c.goes_next.ensures
