@@ -46,7 +46,7 @@ impl<R: AllocGlobal + Wait + Clone + Drop + Send> Model for SqliteFleet<R> {
 
 impl<R: AllocGlobal + Wait + Clone + Drop + Send> SqliteFleet<R> {
     /// Returns a fleet with no wire yet over an empty database in memory.
-    pub fn new(rt: R) -> Result<SqliteFleet<R>, Memory>
+    pub fn new(rt: &R) -> Result<SqliteFleet<R>, Memory>
         ensures { IfOk result (λ fleet. fleet ≡ new_fleet) }
     {
         let database = Database::in_memory(rt.alloc())?;
@@ -55,7 +55,10 @@ impl<R: AllocGlobal + Wait + Clone + Drop + Send> SqliteFleet<R> {
 
     /// Returns a fleet with no wire yet over the database of a file, from its connection in autocommit. The log of the
     /// file stays beside it when the fleet is dropped, and the next open finds what was committed.
-    pub fn on_file(rt: R, connection: Connection<FileStore<File>>) -> Result<SqliteFleet<R>, Memory>
+    pub fn on_file(
+        rt: &R,
+        connection: Connection<FileStore<File>>,
+    ) -> Result<SqliteFleet<R>, Memory>
         requires { connection.in_transaction ≡ false }
         ensures { IfOk result (λ fleet. fleet ≡ new_fleet) }
     {
@@ -63,11 +66,12 @@ impl<R: AllocGlobal + Wait + Clone + Drop + Send> SqliteFleet<R> {
     }
 
     /// Returns a fleet with no wire yet over a database that no wire holds.
-    fn over(rt: R, database: Database) -> Result<SqliteFleet<R>, Memory>
+    fn over(rt: &R, database: Database) -> Result<SqliteFleet<R>, Memory>
         ensures { IfOk result (λ fleet. fleet ≡ new_fleet) }
     {
         let database = Arc::new(rt.alloc(), Mutex::new(database))?;
         let log = FleetLog::new(rt.alloc());
+        let rt = rt.clone()?;
         Ok(SqliteFleet { rt, database, log })
     }
 }

@@ -3,19 +3,16 @@
 //! program's first words are `--file PATH`.
 #![tactic(auto)]
 
-ghost use Rattle.std.specs.Prelude.{◌≡◌, false};
-
 use dsql_driver::OpenGate;
 use dsql_driver_stream::{StdClock, StdSink, StdSource};
 use dsql_run::{Stop, sqlrun, tell};
 use dsql_value::{Memory, Txt};
-use sqlite::{Connection, Error, ErrorCode, File, FileStore};
+use sqlite::{Connection, Error, ErrorCode};
 use sqlite_driver::SqliteFleet;
 use std::env::{self, Env};
 use std::io::ErrorKind;
 use std::mem;
 use std::process::ExitCode;
-use std::sync::Wait;
 
 /// Returns the words that the program was called with, without its name. Words that aren't UTF-8 count as no
 /// words, because the program knows none of them.
@@ -42,23 +39,6 @@ fn take_path(words: &mut Vec<Txt>) -> Option<Txt> {
     Some(words.remove(0))
 }
 
-/// Returns a driver over an empty database in memory.
-fn in_memory<R: AllocGlobal + Wait + Clone + Drop + Send>(
-    rt: &R,
-) -> Result<SqliteFleet<R>, Memory> {
-    SqliteFleet::new(rt.clone()?)
-}
-
-/// Returns a driver over the database of a file.
-fn on_file<R: AllocGlobal + Wait + Clone + Drop + Send>(
-    rt: &R,
-    connection: Connection<FileStore<File>>,
-) -> Result<SqliteFleet<R>, Memory>
-    requires { connection.in_transaction ≡ false }
-{
-    SqliteFleet::on_file(rt.clone()?, connection)
-}
-
 /// Notes why the file can't be opened, and returns the status: 5 for want of memory, 4 if the note fails, and 6
 /// otherwise.
 fn unopened(rt: &impl Eprint, error: Error) -> u8 {
@@ -77,9 +57,9 @@ fn main(rt: HostRuntime) -> ExitCode {
         return ExitCode::from(status);
     };
     let fleet = match take_path(&mut words) {
-        None => in_memory(&rt),
+        None => SqliteFleet::new(&rt),
         Some(path) => match Connection::open(&rt, path.as_str()) {
-            Ok(connection) => on_file(&rt, connection),
+            Ok(connection) => SqliteFleet::on_file(&rt, connection),
             Err(error) => return ExitCode::from(unopened(&rt, error)),
         },
     };
