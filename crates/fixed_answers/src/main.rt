@@ -10,26 +10,9 @@ mod wire;
 use dsql_driver::OpenGate;
 use dsql_driver_stream::{StdClock, StdSink, StdSource};
 use dsql_run::{Stop, sqlrun, tell};
-use dsql_value::{Memory, Txt};
+use dsql_run_words::words;
 use fleet::FixedFleet;
-use std::env::{self, Env};
-use std::io::ErrorKind;
 use std::process::ExitCode;
-
-/// Returns the words that the program was called with, without its name. Words that aren't UTF-8 count as none.
-fn words<R: Env + AllocGlobal>(rt: &R) -> Result<Vec<Txt>, Memory> {
-    let mut words = Vec::new(rt.alloc());
-    match env::args(rt) {
-        Ok(args) => {
-            for word in args.skip(1) {
-                words.push(Txt::new(word))?;
-            }
-            Ok(words)
-        }
-        Err(e) if e.kind() == ErrorKind::OutOfMemory => Err(Memory),
-        Err(_) => Ok(words),
-    }
-}
 
 fn main(rt: HostRuntime) -> ExitCode {
     let mut notes = StdSink::new(rt.stderr());

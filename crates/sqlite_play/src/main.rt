@@ -6,29 +6,12 @@
 use dsql_driver::OpenGate;
 use dsql_driver_stream::{StdClock, StdSink, StdSource};
 use dsql_run::{Stop, sqlrun, tell};
-use dsql_value::{Memory, Txt};
+use dsql_run_words::words;
+use dsql_value::Txt;
 use sqlite::{Connection, Error, ErrorCode};
 use sqlite_driver::SqliteFleet;
-use std::env::{self, Env};
-use std::io::ErrorKind;
 use std::mem;
 use std::process::ExitCode;
-
-/// Returns the words that the program was called with, without its name. Words that aren't UTF-8 count as no
-/// words, because the program knows none of them.
-fn words<R: Env + AllocGlobal>(rt: &R) -> Result<Vec<Txt>, Memory> {
-    let mut words = Vec::new(rt.alloc());
-    match env::args(rt) {
-        Ok(args) => {
-            for word in args.skip(1) {
-                words.push(Txt::new(word))?;
-            }
-            Ok(words)
-        }
-        Err(e) if e.kind() == ErrorKind::OutOfMemory => Err(Memory),
-        Err(_) => Ok(words),
-    }
-}
 
 /// Takes the path of a file and the word before it out of the words. Returns `None` if no path stands there.
 fn take_path(words: &mut Vec<Txt>) -> Option<Txt> {
