@@ -10,13 +10,14 @@ mod wire;
 use dsql_driver::OpenGate;
 use dsql_driver_stream::{StdClock, StdSink, StdSource};
 use dsql_run::{Stop, sqlrun, tell};
-use dsql_run_words::words;
+use dsql_run_words::words_of;
 use fleet::FixedFleet;
+use std::env;
 use std::process::ExitCode;
 
 fn main(rt: HostRuntime) -> ExitCode {
     let mut notes = StdSink::new(rt.stderr());
-    let Ok(words) = words(&rt) else {
+    let Ok(words) = words_of(rt.alloc(), env::args(&rt)) else {
         let status = tell(rt.alloc(), &Err(Stop::Memory), &mut notes);
         return ExitCode::from(status);
     };

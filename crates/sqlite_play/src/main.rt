@@ -6,12 +6,12 @@
 use dsql_driver::OpenGate;
 use dsql_driver_stream::{StdClock, StdSink, StdSource};
 use dsql_run::{Stop, sqlrun, tell};
-use dsql_run_words::words;
+use dsql_run_words::words_of;
 use dsql_value::Txt;
 use sqlite::{Connection, Error, ErrorCode};
 use sqlite_driver::SqliteFleet;
-use std::mem;
 use std::process::ExitCode;
+use std::{env, mem};
 
 /// Takes the path of a file and the word before it out of the words. Returns `None` if no path stands there.
 fn take_path(words: &mut Vec<Txt>) -> Option<Txt> {
@@ -35,7 +35,7 @@ fn unopened(rt: &impl Eprint, error: Error) -> u8 {
 
 fn main(rt: HostRuntime) -> ExitCode {
     let mut notes = StdSink::new(rt.stderr());
-    let Ok(mut words) = words(&rt) else {
+    let Ok(mut words) = words_of(rt.alloc(), env::args(&rt)) else {
         let status = tell(rt.alloc(), &Err(Stop::Memory), &mut notes);
         return ExitCode::from(status);
     };

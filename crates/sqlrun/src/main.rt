@@ -6,9 +6,9 @@ use dsql_driver::OpenGate;
 use dsql_driver_stream::{StdClock, StdSink, StdSource};
 use dsql_mem::MemFleet;
 use dsql_run::{Stop, sqlrun, tell};
-use dsql_run_words::words;
+use dsql_run_words::words_of;
 use dsql_value::{Memory, Txt};
-use std::env::Env;
+use std::env::{self, Env};
 use std::mem;
 use std::process::ExitCode;
 use std::sync::Wait;
@@ -17,7 +17,7 @@ use std::sync::Wait;
 fn prepared<R: Env + AllocGlobal + Wait + Clone + Drop + Send>(
     rt: &R,
 ) -> Result<(Vec<Txt>, MemFleet<R>), Memory> {
-    let words = words(rt)?;
+    let words = words_of(rt.alloc(), env::args(rt))?;
     let fleet = MemFleet::new(rt.clone()?)?;
     Ok((words, fleet))
 }
