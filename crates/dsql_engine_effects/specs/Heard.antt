@@ -77,7 +77,7 @@ made_by late n _ rows = rows
 
 -- Returns the rows after an answer to call n with this work, given these transactions.
 abbrev pub rows_after : Numbered Tx → Work → ℕ → DriverCall → DriverAnswer → Made → Made
-rows_after txs (Statement it (HandOut label)) n (Query input params) answer rows = made_by (are_late txs it) n answer rows
+rows_after txs (Statement it (HandOut label)) n (Query i params) answer rows = made_by (are_late txs it) n answer rows
 rows_after txs (Fetch k) n (Next cursor) answer rows = changed (fetched answer) k rows
 rows_after txs _ n call answer rows = rows
 

@@ -21,8 +21,8 @@ use dsql_history::Wire;
 
 /// An act had to stop in which no connection was opened or shut. If all wires are as before, nothing more was heard. If
 /// a call was answered, at most that answer wasn't taken in. If memory was wanting for a call, at most that want came.
-/// A fleet that wasn't asked has nothing to record. If the wires are as before too, a fault that was to be planned may be
-/// left out.
+/// A fleet that wasn't asked has nothing to record. If the wires are as before too, a fault that was to be planned may
+/// be left out.
 pub fn wires_hear_at_most_one_call_more<W: Wire>()
     ensures nothing { (past : List Event) (slots now : List (Option (Journaled W)))
         → SameWires W.told slots now → HearsAtMost W.told past past slots now }

@@ -92,8 +92,8 @@ Does who _ answer before after old new = new ≡ old
 
 -- Holds if a call of this wire, which was answered so, used the database as it may. While another wire holds the
 -- database, it stays as it was, and a call that needs it is refused. So is one of a wire whose transaction a failure
--- ended, until the wire ends the transaction too. Only a wire that holds the database ends a transaction, and leaves the
--- database to other wires then.
+-- ended, until the wire ends the transaction too. Only a wire that holds the database ends a transaction, and leaves
+-- the database to other wires then.
 pub record Uses (who : ℕ) (call : DriverCall) (answer : DriverAnswer) (before after : SessionState)
     (old new : Database) : Type 0 where
   pub does : Does who call answer before after old new

@@ -69,8 +69,8 @@ abbrev pub ending_call : Event → ℕ
 ending_call (Entered client n op) = n
 ending_call _ = 0
 
--- Returns the call that ended transaction k as it entered, 0 if no call did. What `tx_end` returns says whether the run's
--- end ended it or nothing has.
+-- Returns the call that ended transaction k as it entered, 0 if no call did. What `tx_end` returns says whether the
+-- run's end ended it or nothing has.
 abbrev pub tx_ender : List Event → ℕ → ℕ
 tx_ender [] k = 0
 tx_ender (e ∷ before) k = cond (goes_on before k) (cond (goes_on (e ∷ before) k) 0 (ending_call e)) (tx_ender before k)
