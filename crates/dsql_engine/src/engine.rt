@@ -17,7 +17,7 @@ ghost use Rattle.dsql_engine_hearing.specs.laws_steps.Groups.{after_control, aft
 use crate::control_fault::ControlFault;
 use crate::outside::{self, end_run};
 use crate::paying::pay;
-use dsql_engine_hearing::{Caps, Control, Desk, Flights, Next, NoRoom, go_on};
+use dsql_engine_hearing::{Caps, Control, Desk, Flights, Next, NoRoom, Room, go_on};
 pub use questions::Spent;
 use std::alloc::Global;
 use std::marker::Model;
@@ -67,13 +67,24 @@ impl Engine {
         ensures kept { IfOk result (λ e. e.trimmed ≡ 0) }
         ensures legal { IfOk result (λ e. Legal e.past) }
     {
-        let desk = Desk::start(alloc, version, caps)?;
-        Ok(Engine {
+        Ok(Engine::begin(Room::new(alloc)?, version, caps))
+    }
+
+    /// Returns an engine whose run has begun, over a driver with these capabilities. It takes no memory.
+    pub fn begin(room: Room, version: u8, caps: Caps) -> Engine
+        requires { version ≡ 1 }
+        ensures begun { result.past ≡ Run version caps ∷ [] }
+        ensures free { (result.flights ≡ []) × (result.chore ≡ None) }
+        ensures kept { result.trimmed ≡ 0 }
+        ensures legal { Legal result.past }
+    {
+        let alloc = room.alloc();
+        Engine {
             alloc,
-            desk,
+            desk: Desk::start(room, version, caps),
             flights: Flights::new(alloc),
             chore: None,
-        })
+        }
     }
 
     /// Lets a client's unfinished call with no driver call under way go on as far as it can by itself.

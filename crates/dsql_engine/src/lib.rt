@@ -20,5 +20,5 @@ mod paying;
 mod permits;
 
 pub use control_fault::ControlFault;
-pub use dsql_engine_hearing::{Caps, Control, Entry, Event, Leave, Next, NoRoom, Op, Why};
+pub use dsql_engine_hearing::{Caps, Control, Entry, Event, Leave, Next, NoRoom, Op, Room, Why};
 pub use engine::{Engine, HeardBack, Spent};

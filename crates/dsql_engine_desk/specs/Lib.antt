@@ -1,4 +1,5 @@
 pub mod Step
+pub mod Room
 pub mod Desk
 pub mod Adding
 pub mod Appending

@@ -1,14 +1,14 @@
 //! The desk, which holds the present state of a run: how it begins, and its memory.
 ghost use Rattle.std.specs.Prelude.{◌≡◌, ◌≤◌, ◌∷◌, [], length, IfOk, OnOk};
-ghost use Rattle.dsql_engine_calls.specs.Calls.{nobody};
 ghost use Rattle.dsql_engine_desk.specs.Desk.{trimmed, past, Stands};
 ghost use Rattle.dsql_laws_calls.specs.history.Rules.Settled.{Settled};
 ghost use Rattle.dsql_laws_calls.specs.history.declared.event.Event.TheVariants.{Run};
 
-use dsql_engine_calls::{CallRow, NoRoom, Tried};
+use crate::room::Room;
+use dsql_engine_calls::{CallRow, NoRoom};
 use dsql_engine_lines::Lines;
 use dsql_engine_pooling::EventLog;
-use dsql_laws_calls::{CallRecord, Caps, DbEnd, Event, Items, Pool, RowsTable, Txs, Txt, Work};
+use dsql_laws_calls::{Caps, DbEnd, Event, Pool, RowsTable, Txs};
 use indexmap::IndexMap;
 use std::alloc::Global;
 
@@ -47,28 +47,30 @@ pub struct Desk {
 
 #[tactic(auto, unfolding(crate::specs::Desk::Stands, dsql_history::specs::Legal::Allowed))]
 impl Desk {
-    /// Returns the desk of a run that begins. Fails with `NoRoom` if there is no memory.
-    pub fn start(alloc: Global, version: u8, caps: Caps) -> Result<Desk, NoRoom>
+    /// Returns the desk of a run that begins. It takes no memory.
+    pub fn start(room: Room, version: u8, caps: Caps) -> Desk
         requires { version ≡ 1 }
-        ensures stands { IfOk result (λ d. Stands d) }
-        ensures past { IfOk result (λ d. past d ≡ Run version caps ∷ []) }
-        ensures trimmed { IfOk result (λ d. trimmed d ≡ 0) }
-        ensures settled { IfOk result (λ d. Settled (past d)) }
+        ensures stands { Stands result }
+        ensures past { past result ≡ Run version caps ∷ [] }
+        ensures trimmed { trimmed result ≡ 0 }
+        ensures settled { Settled (past result) }
     {
-        let mut history = EventLog::new(alloc);
-        history.reserve(1)?;
+        let Room {
+            alloc,
+            history,
+            lines,
+            calls,
+            sent,
+        } = room;
+        let mut history = history;
         history.note(Event::Run { version, caps });
-        let mut calls = Vec::new(alloc);
-        calls.push(nobody(alloc))?;
-        let mut sent = Vec::new(alloc);
-        sent.push(0)?;
-        Ok(Desk {
+        Desk {
             history,
             caps,
             closed_by: None,
             ended: false,
             pool: Pool::new(alloc),
-            lines: Lines::new(alloc)?,
+            lines,
             calls,
             unfinished: Vec::new(alloc),
             sent,
@@ -78,7 +80,7 @@ impl Desk {
             rows: RowsTable::new(alloc),
             txs: Txs::new(alloc),
             paid: 0,
-        })
+        }
     }
 
     /// Trims the history: drops the events so far.
@@ -114,24 +116,5 @@ impl Desk {
         self.pool.reserve(events)?;
         self.paid = count;
         Ok(())
-    }
-}
-
-// Returns the row of no call.
-fn nobody(alloc: Global) -> CallRow
-    ensures { result ≡ nobody }
-{
-    let call = CallRecord {
-        client: 0,
-        text: Txt::new(String::new(alloc)),
-        params: Items::none(alloc),
-        decided: None,
-    };
-    CallRow {
-        call,
-        work: Work::Look,
-        tried: Tried::new(),
-        ender: 0,
-        tx_ender: 0,
     }
 }

@@ -7,7 +7,7 @@ mod next;
 mod permits;
 pub mod whole_steps;
 
-pub use dsql_engine_desk::{BareCall, Desk, Leave, NoRoom, Statement, fate_of};
+pub use dsql_engine_desk::{BareCall, Desk, Leave, NoRoom, Room, Statement, fate_of};
 pub use dsql_engine_pooling::Flights;
 pub use dsql_follows::Line;
 pub use dsql_laws_calls::{

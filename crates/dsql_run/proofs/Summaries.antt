@@ -8,7 +8,7 @@ use Rattle.dsql_run_outcome.specs.script_show.Report.{with_text}
 use Rattle.dsql_run_outcome.specs.script_show.Summary.{line_of, summary_of}
 use Rattle.dsql_run_outcome.specs.script_source.declared.stop.Stop.{Stop}
 use Rattle.dsql_run_outcome.specs.script_source.declared.stop.Stop.TheVariants.{Read, Write, Memory, Refused, Full}
-use Rattle.dsql_run_outcome.specs.Headline.{HeadRead, Seen, IsPlayed, NotBegun, RanSo, Untouched}
+use Rattle.dsql_run_outcome.specs.Headline.{Seen, IsPlayed, NotBegun, RanSo}
 use Rattle.dsql_run_outcome.specs.Runs.{Finishes, IsLinesEnd, is_write_fault}
 use Rattle.dsql_run_outcome.specs.Summing.{NotSummarized, Summarized, WritesPiece, summary, unreported}
 use Rattle.dsql_run.specs.declared.playing.Kept.{Kept}
@@ -66,11 +66,6 @@ so_many stopped told before after past lines finishes r writes = by told stopped
         subst (λ text. WritesPiece (Err (Refused number fault)) text before.written after.written) (same (counted (over (Err (Refused number fault)) played f tt))) w
     by (Err Full) played f counted unfailed w = w
 
--- What was read and asked for doesn't depend on what was written.
-touched_so : (before after : Seen) → Untouched (unreported before) (unreported after) ⊎ HeadRead (unreported before) (unreported after) → Untouched before after ⊎ HeadRead before after
-touched_so before after (inl u) = inl (record { left = u.left; read_faults = u.read_faults; ability = u.ability; preferred = u.preferred })
-touched_so before after (inr r) = inr (record { first = r.first; reader = r.reader; head = r.head; faults = r.faults })
-
 -- A run was summed up, or it hadn't begun.
 pub summed : (kept : Option Kept) (stopped told : Result (Unit {0}) Stop) (before after : Seen) → Finishes stopped told → IfSome kept (λ k. RanSo stopped (unreported before) (unreported after) k.player.past k.script.reader.lines)
     → IfSome kept (λ k. WritesPiece told (line_of (summary_of k.script.reader.lines k.player.past)) before.written after.written) → (kept ≡ None → NotBegun stopped (unreported before) (unreported after)) → (kept ≡ None → told ≡ stopped)
@@ -79,4 +74,4 @@ summed (Some k) stopped told before after finishes ran writes none stays unwritt
     inl (record { ran = ran.ran; written = so_many stopped told before after k.player.past k.script.reader.lines finishes ran writes })
 summed None stopped told before after finishes ran writes none stays unwritten =
     let not_begun = none refl in
-    inr (record { memory = stays refl ∙ not_begun.memory; unwritten = unwritten refl; unopened = not_begun.unopened; touched = touched_so before after not_begun.touched })
+    inr (record { memory = stays refl ∙ not_begun.memory; unwritten = unwritten refl; same = not_begun.same })

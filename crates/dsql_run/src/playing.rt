@@ -21,8 +21,8 @@ use crate::closing::close;
 use crate::finishing::finish;
 use crate::showing::{show_history, trim_shown};
 use dsql_run_outcome::{
-    Fleet, Player, ScriptLine, ScriptReader, Shown, Sink, Source, Stop, Wires, line_as_played,
-    read_head,
+    Fleet, Player, Room, ScriptLine, ScriptReader, Shown, Sink, Source, Stop, Wires,
+    line_as_played, read_head,
 };
 use std::alloc::Global;
 
@@ -172,12 +172,12 @@ pub(crate) fn play_keeping<S: Source, K: Sink, F: Fleet>(
     let Ok(script) = ScriptReader::new(alloc) else {
         return Played::not_begun();
     };
-    let mut script = script;
-    let first = read_head(alloc, &mut script, input, fleet);
-    let Ok(player) = Player::new(alloc, 1, fleet.caps()) else {
+    let Ok(room) = Room::new(alloc) else {
         return Played::not_begun();
     };
-    let mut player = player;
+    let mut script = script;
+    let first = read_head(alloc, &mut script, input, fleet);
+    let mut player = Player::new(room, 1, fleet.caps());
     let stopped = play_from(
         alloc,
         keeps,

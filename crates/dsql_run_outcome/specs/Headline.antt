@@ -5,7 +5,6 @@ use Rattle.dsql_history.specs.driver.declared.stream.Source as sources
 use Rattle.dsql_history.specs.driver.declared.stream.Sink as sinks
 use Rattle.dsql_history.specs.driver.declared.wire.Fleet as fleets
 use Rattle.dsql_history.specs.driver.Streams.{HasRisen, has_risen}
-use Rattle.dsql_driver_stream.specs.Faults.{CountsFaults}
 use Rattle.dsql_history.specs.driver.Wires.{FleetTold, Preferred}
 use Rattle.dsql_history.specs.pool.Pooled.{open_count}
 use Rattle.dsql_history.specs.declared.event.Event.{Event}
@@ -20,14 +19,12 @@ use Rattle.dsql_laws_apart.specs.Apart.{are_apart}
 use Rattle.dsql_laws_steps.specs.Groups.{most_events}
 use Rattle.dsql_run_wires.specs.Told.{with_told}
 use Rattle.dsql_run_player.specs.Planned.{plans_made}
-use Rattle.dsql_script_reader.specs.declared.script.ScriptLine.{ScriptLine}
 use Rattle.dsql_script_report.specs.Lines.{text_of}
 use Rattle.dsql_script_show.specs.Report.{with_text, ShowsFront}
 use Rattle.dsql_script_source.specs.Plays.{Plays, saying}
-use Rattle.dsql_script_source.specs.Position.{Position}
-use Rattle.dsql_script_source.specs.Reading.{Prefers, ReadsHead}
+use Rattle.dsql_script_source.specs.Reading.{Prefers}
 use Rattle.dsql_script_source.specs.Script.{Says, whole}
-use Rattle.dsql_script_source.specs.Stops.{is_read_fault, no_read_failed}
+use Rattle.dsql_script_source.specs.Stops.{no_read_failed}
 use Rattle.dsql_script_source.specs.declared.stop.Stop.{Stop}
 use Rattle.dsql_script_source.specs.declared.stop.Stop.TheVariants.{Read, Write, Memory, Full}
 use Rattle.dsql_run_outcome.specs.Followed.{FollowsAll}
@@ -93,29 +90,10 @@ pub record RanSo (stopped : Result Unit Stop) (before after : Seen) (past : List
   pub is : ran.history ≡ past
   pub counted : IsLinesEnd stopped → length ran.lines ≡ read_lines
 
--- Holds if nothing was read, and the fleet is as it was.
-pub record Untouched (before after : Seen) : Type 0 where
-  pub left : after.left ≡ before.left
-  pub read_faults : after.read_faults ≡ before.read_faults
-  pub ability : after.ability ≡ before.ability
-  pub preferred : after.preferred ≡ before.preferred
-
--- Holds if the head of a script was read. How much of the source is left isn't said. The fleet was asked only for the
--- capabilities that a caps line names.
-pub record HeadRead (before after : Seen) : Type 0 where
-  pub first : Result (Option ScriptLine) Stop
-  pub reader : Position
-  pub head : ReadsHead before.left first reader after.left before.preferred after.preferred before.ability after.ability
-  pub faults : CountsFaults (is_read_fault first) before.read_faults after.read_faults
-
--- Holds if there was no memory for the run's first event. Nothing was written, no write failed, and the fleet
--- wasn't asked for a connection. Nothing was read, or the head was.
+-- Holds if there was no memory with which a run begins. Nothing was read, written or asked for.
 pub record NotBegun (stopped : Result Unit Stop) (before after : Seen) : Type 0 where
   pub memory : stopped ≡ Err Memory
-  pub unwritten : after.written ≡ before.written
-  pub untried : after.write_faults ≡ before.write_faults
-  pub unopened : after.told ≡ before.told
-  pub touched : Untouched before after ⊎ HeadRead before after
+  pub same : after ≡ before
 
 -- Holds if a script was played, and this stopped it, if anything did.
 abbrev pub IsPlayed : Result Unit Stop → Seen → Seen → Type 0

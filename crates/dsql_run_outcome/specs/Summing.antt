@@ -10,7 +10,7 @@ use Rattle.dsql_script_source.specs.declared.stop.Stop.{Stop}
 use Rattle.dsql_script_source.specs.declared.stop.Stop.TheVariants.{Write, Memory, Full}
 use Rattle.dsql_script_generator.specs.declared.words.Command.{Command}
 use Rattle.dsql_script_generator.specs.declared.words.Command.TheVariants.{Play, Summarize, Generate}
-use Rattle.dsql_run_outcome.specs.Headline.{HeadRead, Seen, SeenNotes, Ran, PlaysWholeAs, Untouched}
+use Rattle.dsql_run_outcome.specs.Headline.{Seen, SeenNotes, Ran, PlaysWholeAs}
 use Rattle.dsql_run_outcome.specs.Notes.{Tells}
 use Rattle.dsql_run_outcome.specs.Runs.{Finishes, no_write_failed}
 
@@ -35,12 +35,11 @@ pub record Summarized (stopped told : Result Unit Stop) (before after : Seen) : 
   pub ran : Ran stopped (unreported before) (unreported after)
   pub written : WritesPiece told (summary ran.lines ran.history) before.written after.written
 
--- Holds if there was no memory for the run's first event, and nothing was written. Nothing was read, or the head was.
+-- Holds if there was no memory with which a run begins. Nothing was read, written or asked for.
 pub record NotSummarized (told : Result Unit Stop) (before after : Seen) : Type 0 where
   pub memory : told ≡ Err Memory
   pub unwritten : after.written ≡ before.written
-  pub unopened : after.told ≡ before.told
-  pub touched : Untouched before after ⊎ HeadRead before after
+  pub same : unreported after ≡ unreported before
 
 -- Holds if a script was played for its summary. The notes and the status report what stopped it, or what stopped the
 -- writing of the summary.

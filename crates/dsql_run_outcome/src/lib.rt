@@ -9,7 +9,7 @@ mod stop;
 pub use dsql_driver_stream::write_whole;
 pub use dsql_follows::Line;
 pub use dsql_history::{Clock, Failed, Fleet, Gate, Sink, Source, Txt};
-pub use dsql_run_player::{Player, carry_end, carry_line};
+pub use dsql_run_player::{Player, Room, carry_end, carry_line};
 pub use dsql_run_wires::{Wires, retire_all};
 pub use dsql_script_generator::{Command, GenerateFault, command_of, generate};
 pub use dsql_script_reader::ScriptLine;

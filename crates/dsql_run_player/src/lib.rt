@@ -19,6 +19,7 @@ pub mod taking_steps;
 mod waking;
 mod whose_turn;
 
+pub use dsql_engine::Room;
 pub use halt::Halt;
 pub use line::{carry_end, carry_line};
 pub use player::Player;

@@ -1,4 +1,4 @@
-ghost use Rattle.std.specs.Prelude.{◌≡◌, ◌<◌, ◌≤◌, ◌∷◌, [], true, false, length, reverse, IfOk, OnOk, OnErr};
+ghost use Rattle.std.specs.Prelude.{◌≡◌, ◌<◌, ◌≤◌, ◌∷◌, [], true, false, length, reverse, OnOk, OnErr};
 ghost use Rattle.dsql_engine_laws.specs.history.declared.event.Event.TheVariants.{Run};
 ghost use Rattle.dsql_engine_laws.specs.history.Legal.{Legal};
 ghost use Rattle.dsql_engine_laws.specs.history.Trimmed.{IsLeftOf};
@@ -7,10 +7,9 @@ ghost use Rattle.dsql_run_player.specs.Playing.{IsAt, IsReady};
 ghost use Rattle.dsql_engine_laws.specs.laws_steps.Groups.{most_events};
 
 use crate::halt::Halt;
-use dsql_engine::Engine;
+use dsql_engine::{Engine, Room};
 use dsql_engine_laws::{Caps, Event};
 use dsql_run_wires::Seats;
-use std::alloc::Global;
 use std::marker::Model;
 
 /// A run of a script: the layer's core, what each client has at hand, and whether the script is at its end. At
@@ -50,22 +49,21 @@ impl Model for Player {
 }
 
 impl Player {
-    /// Returns a player whose run has begun, over a driver with these abilities. Fails with `Memory` if there
-    /// is none.
-    pub fn new(alloc: Global, version: u8, caps: Caps) -> Result<Player, Halt>
+    /// Returns a player whose run has begun, over a driver with these abilities. It takes no memory.
+    pub fn new(room: Room, version: u8, caps: Caps) -> Player
         requires { version ≡ 1 }
-        ensures begun { IfOk result (λ p. p.past ≡ Run version caps ∷ []) }
-        ensures at { IfOk result (λ p. IsAt (just_begun (Run version caps)) p) }
-        ensures ready { IfOk result (λ p. IsReady p) }
-        ensures unreleased { IfOk result (λ p. p.released ≡ false) }
-        ensures kept { IfOk result (λ p. p.trimmed ≡ 0) }
-        ensures memory { OnErr result (result ≡ Err Halt.Memory) }
+        ensures begun { result.past ≡ Run version caps ∷ [] }
+        ensures at { IsAt (just_begun (Run version caps)) result }
+        ensures ready { IsReady result }
+        ensures unreleased { result.released ≡ false }
+        ensures kept { result.trimmed ≡ 0 }
     {
-        Ok(Player {
-            engine: Engine::new(alloc, version, caps)?,
-            seats: Seats::new(alloc),
+        let seats = Seats::new(room.alloc());
+        Player {
+            engine: Engine::begin(room, version, caps),
+            seats,
             released: false,
-        })
+        }
     }
 
     /// Returns the events that weren't trimmed, oldest first.

@@ -10,41 +10,19 @@ use Rattle.dsql_run_outcome.specs.Playing.{ScriptPlayed}
 use Rattle.dsql_run_outcome.proofs.Finished.{risen_later, risen_earlier}
 use Rattle.dsql_run.proofs.playing.play_keeping.Goals as goal
 
--- There was no memory for the reader.
+-- There was no memory with which a run begins.
 
 pub returns-in_default-clause-ran : goal.returns-in_default-clause-ran
-returns-in_default-clause-ran g c =
-    inr (record { memory = rw c.not_begun.ensures refl; unwritten = refl; untried = refl; unopened = refl; touched = inl (record { left = refl; read_faults = refl; ability = refl; preferred = refl }) })
+returns-in_default-clause-ran g c = inr (record { memory = rw c.not_begun.ensures refl; same = refl })
 
 pub returns-in_default-clause-none : goal.returns-in_default-clause-none
-returns-in_default-clause-none g c = λ none.
-    record { memory = rw c.not_begun.ensures refl; unwritten = refl; untried = refl; unopened = refl; touched = inl (record { left = refl; read_faults = refl; ability = refl; preferred = refl }) }
-
--- There was no memory for the run's first event.
+returns-in_default-clause-none g c = λ none. record { memory = rw c.not_begun.ensures refl; same = refl }
 
 pub returns-in_default-new-clause-ran : goal.returns-in_default-new-clause-ran
-returns-in_default-new-clause-ran g c =
-    let left = g.S.Source.left c.args.input.now in
-    let read : HasRead left c.in-Ok.script left nothing = c.in-Ok.ensures.first left in
-    inr (record {
-      memory = rw c.not_begun-in_default-new.ensures refl;
-      unwritten = refl;
-      untried = refl;
-      unopened = c.read_head-first.ensures.unasked;
-      touched = inr (record { first = c.read_head-first.result; reader = c.read_head-first.new.script; head = c.read_head-first.ensures.reads left read; faults = c.read_head-first.ensures.faults });
-    })
+returns-in_default-new-clause-ran g c = inr (record { memory = rw c.not_begun-in_default-new.ensures refl; same = refl })
 
 pub returns-in_default-new-clause-none : goal.returns-in_default-new-clause-none
-returns-in_default-new-clause-none g c = λ none.
-    let left = g.S.Source.left c.args.input.now in
-    let read : HasRead left c.in-Ok.script left nothing = c.in-Ok.ensures.first left in
-    record {
-      memory = rw c.not_begun-in_default-new.ensures refl;
-      unwritten = refl;
-      untried = refl;
-      unopened = c.read_head-first.ensures.unasked;
-      touched = inr (record { first = c.read_head-first.result; reader = c.read_head-first.new.script; head = c.read_head-first.ensures.reads left read; faults = c.read_head-first.ensures.faults });
-    }
+returns-in_default-new-clause-none g c = λ none. record { memory = rw c.not_begun-in_default-new.ensures refl; same = refl }
 
 -- The run began.
 

@@ -9,8 +9,8 @@ use Rattle.dsql_engine_desk.proofs.desk.Desk.start.Goals as goal
 pub returns-clause-stands : goal.returns-clause-stands
 unfolding Stands Allowed
 returns-clause-stands c =
-    stands_begun _ c.args.version c.args.caps (search rules) (λ label. ap (λ es. lookup (λ k. bytes_eq label (string_bytes k)) es) c.new-4.ensures.empty)
-    (λ label. ap (λ es. lookup (λ k. bytes_eq label (string_bytes k)) es) c.new-5.ensures.empty)
+    stands_begun _ c.args.version c.args.caps (search rules) (λ label. ap (λ es. lookup (λ k. bytes_eq label (string_bytes k)) es) c.new-3.ensures.empty)
+    (λ label. ap (λ es. lookup (λ k. bytes_eq label (string_bytes k)) es) c.new-4.ensures.empty)
     (λ once labels tx_labels.
     record {
       tables = record {
