@@ -8,8 +8,9 @@ use Rattle.dsql_history.specs.works.Caps.{all_caps}
 use Rattle.dsql_history.specs.declared.event.Event.{Event}
 use Rattle.dsql_history.specs.declared.event.Event.TheVariants.{Run, Replied, Ended}
 use Rattle.dsql_history.specs.declared.reply.Reply.TheVariants as replies
-use Rattle.dsql_cases_histories.specs.CallWords.{run, text, exec, one_changed, told_one_changed, executes, fetches, asks_for_stats, open_start, lend, back, close, gone, fell, house, sent}
+use Rattle.dsql_cases_histories.specs.CallWords.{run, text, exec, one_changed, told_one_changed, executes, fetches, queries, asks_for_stats, open_start, lend, back, close, gone, fell, house, sent}
 use Rattle.dsql_cases_histories.specs.BegunCalls.{started, queried, executed, left_idle}
+use Rattle.dsql_cases_histories.specs.Words.{begins}
 
 -- The report has another version.
 abbrev pub has_another_version : List Event
@@ -54,6 +55,24 @@ enters_while_busy =
     ++ executes 1 1
     ∷ open_start 1 1
     ∷ asks_for_stats 1 2
+    ∷ []
+
+-- Two queries make the same label.
+abbrev pub makes_a_label_twice : List Event
+makes_a_label_twice =
+    started
+    ++ queries 1 1 (codes "r")
+    ∷ open_start 1 1
+    ∷ queries 2 2 (codes "r")
+    ∷ []
+
+-- A transaction gets the label of rows.
+abbrev pub begins_under_the_label_of_rows : List Event
+begins_under_the_label_of_rows =
+    started
+    ++ queries 1 1 (codes "r")
+    ∷ open_start 1 1
+    ∷ begins 2 2 (codes "r")
     ∷ []
 
 -- A call replies twice.

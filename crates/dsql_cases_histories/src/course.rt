@@ -14,7 +14,7 @@ ghost use Rattle.dsql_history.specs.Rules.Line.{keeps_line};
 ghost use Rattle.dsql_history.specs.Rules.Journals.{keeps_journals};
 ghost use Rattle.dsql_history.specs.Rules.Replies.{keeps_replies};
 ghost use Rattle.dsql_cases_histories.specs.Refusals.{is_refused_at, is_unsettled_after};
-ghost use Rattle.dsql_cases_histories.specs.DamagedCourse.{has_another_version, begins_without_run, runs_twice, ends_twice, skips_a_call, enters_while_busy, replies_twice, replies_to_no_call, skips_a_connection, lends_in_another_tenure, hears_in_another_tenure, lends_before_the_connect, lends_a_refused_one, leaves_a_connected_one, falls_before_the_connect, goes_unshut, keeps_a_bad_one, gives_back_open_rows, answers_a_fetch_with_a_result, tells_of_too_many, becomes_idle_before_the_connect};
+ghost use Rattle.dsql_cases_histories.specs.DamagedCourse.{has_another_version, begins_without_run, runs_twice, ends_twice, skips_a_call, enters_while_busy, makes_a_label_twice, begins_under_the_label_of_rows, replies_twice, replies_to_no_call, skips_a_connection, lends_in_another_tenure, hears_in_another_tenure, lends_before_the_connect, lends_a_refused_one, leaves_a_connected_one, falls_before_the_connect, goes_unshut, keeps_a_bad_one, gives_back_open_rows, answers_a_fetch_with_a_result, tells_of_too_many, becomes_idle_before_the_connect};
 
 /// States why each of these histories, damaged in its course, is refused.
 pub fn refused_courses()
@@ -24,6 +24,8 @@ pub fn refused_courses()
     ensures ends_twice { is_refused_at 3 keeps_course ends_twice ≡ true }
     ensures skips_a_call { is_refused_at 2 keeps_numbers skips_a_call ≡ true }
     ensures enters_while_busy { is_refused_at 4 keeps_numbers enters_while_busy ≡ true }
+    ensures makes_a_label_twice { is_refused_at 4 keeps_numbers makes_a_label_twice ≡ true }
+    ensures begins_under_the_label_of_rows { is_refused_at 4 keeps_numbers begins_under_the_label_of_rows ≡ true }
     ensures replies_twice { is_refused_at 9 keeps_numbers replies_twice ≡ true }
     ensures replies_to_no_call { is_refused_at 2 keeps_numbers replies_to_no_call ≡ true }
     ensures skips_a_connection { is_refused_at 3 keeps_sets skips_a_connection ≡ true }

@@ -5,9 +5,6 @@ use Rattle.std.proofs.Math.ListN.{get_or-map}
 use Rattle.dsql_laws_calls.specs.journal.declared.entry.Entry.{Entry}
 use Rattle.dsql_laws_calls.specs.history.declared.work.Work.{Work}
 use Rattle.dsql_laws_calls.specs.history.declared.work.Work.TheVariants.{Look}
-use Rattle.dsql_laws_calls.specs.history.declared.record.CallRecord.{CallRecord}
-use Rattle.dsql_laws_calls.specs.history.Readers.Calls as told
-use Rattle.dsql_laws_calls.specs.history.Readers.Calls.{call_record}
 use Rattle.dsql_laws_calls.specs.history.declared.reply.Reply.{Reply}
 use Rattle.dsql_laws_calls.specs.history.Readers.Tries.{try_number, tries}
 use Rattle.dsql_laws_calls.specs.history.Readers.Unfinished.{is_unfinished}

@@ -27,3 +27,4 @@ pub mod AtEntry
 pub mod EndingLent
 pub mod SentOver
 pub mod Beginning
+pub mod MadeLabels

@@ -1,5 +1,5 @@
 -- The checks of a call that enters, and the rows on which it works.
-use Rattle.std.specs.Prelude.{◌≡◌, ℕ, ◌==◌, cond, Bool, true, false, List, string_bytes, Option, Some, None, option_map}
+use Rattle.std.specs.Prelude.{◌≡◌, ℕ, cond, true, false, List, string_bytes, Option, Some, None, option_map}
 use Rattle.dsql_laws_calls.specs.value.declared.arg.Named.{Named}
 use Rattle.dsql_laws_calls.specs.value.Arguments.{first_fault}
 use Rattle.dsql_laws_calls.specs.course.Made.{or_else}
@@ -7,8 +7,6 @@ use Rattle.dsql_laws_calls.specs.tx.declared.end.TxEnd.{TxEnd}
 use Rattle.dsql_laws_calls.specs.rows.OpenRows.{was_made}
 use Rattle.dsql_laws_calls.specs.works.Calls.{accepted}
 use Rattle.dsql_laws_calls.specs.history.declared.event.Event.{Event}
-use Rattle.dsql_laws_calls.specs.history.declared.event.Op.{Op}
-use Rattle.dsql_laws_calls.specs.history.declared.event.Op.TheVariants.{Query, Begin}
 use Rattle.dsql_laws_calls.specs.history.declared.event.Target.{Target}
 use Rattle.dsql_laws_calls.specs.history.declared.work.Work.{Work}
 use Rattle.dsql_laws_calls.specs.history.declared.work.Work.TheVariants.{End}
@@ -52,9 +50,3 @@ pub record IsNamed (past : List Event) (label : List ℕ) (k : ℕ) : Type 0 whe
 abbrev pub NoneNamed : List Event → List ℕ → Type 0
 NoneNamed past label =
     cond (is_unfinished past (rows_maker (works past) label)) None (rows_by past (rows_maker (works past) label)) ≡ None
-
--- Is true if no call that has entered makes the label that this operation makes.
-abbrev pub names_fit : List Event → Op → Bool
-names_fit past (Query label target text args) = rows_maker (works past) label == 0
-names_fit past (Begin label level read_only) = tx_maker (works past) label == 0
-names_fit past op = true

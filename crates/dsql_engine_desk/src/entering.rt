@@ -2,9 +2,10 @@
 ghost use Rattle.std.specs.Prelude.{◌≡◌, ◌<◌, Some, None, cond, IfOk, length, string_bytes, option_map};
 ghost use Rattle.dsql_laws_calls.specs.works.Limits.{most_within_a_step};
 ghost use Rattle.dsql_engine_desk.specs.Desk.{past, Stands};
-ghost use Rattle.dsql_engine_desk.specs.Entering.{names_fit, StartsEnd, StartsText, tx_named};
+ghost use Rattle.dsql_engine_desk.specs.Entering.{StartsEnd, StartsText, tx_named};
 ghost use Rattle.dsql_engine_effects.specs.Starts.{Starts, label_made};
 ghost use Rattle.dsql_laws_calls.specs.history.Readers.Calls.{target_refused};
+ghost use Rattle.dsql_laws_calls.specs.history.Readers.Labels.{is_made, names_fit};
 ghost use Rattle.dsql_laws_calls.specs.history.Readers.Unfinished.{is_unfinished};
 ghost use Rattle.dsql_laws_calls.specs.history.Readers.Works.{scope_of, tx_maker, works};
 ghost use Rattle.dsql_laws_calls.specs.history.declared.event.Op.TheVariants as ops;
@@ -71,10 +72,18 @@ impl Desk {
         ensures { result ≡ names_fit (past self.now) op.now }
     {
         match op {
-            Op::Query { label, .. } => self.rows_maker(label) == 0,
-            Op::Begin { label, .. } => self.tx_maker(label) == 0,
+            Op::Query { label, .. } | Op::Begin { label, .. } => !self.is_made(label),
             _ => true,
         }
+    }
+
+    /// Returns whether a call that has entered makes the label, for rows or for a transaction.
+    fn is_made(&self, label: &Txt) -> bool
+        requires { Stands self.now }
+        ensures { result ≡ is_made (past self.now) label.now }
+    {
+        let name = label.as_str();
+        self.labels.contains_key(name) || self.tx_labels.contains_key(name)
     }
 
     /// Returns what the desk records of an `ExecContext`.

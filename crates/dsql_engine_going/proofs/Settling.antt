@@ -6,6 +6,7 @@ use Rattle.dsql_laws_calls.specs.history.declared.event.Event.TheVariants.{Enter
 use Rattle.dsql_laws_calls.specs.history.declared.event.Op.{Op}
 use Rattle.dsql_laws_calls.specs.history.declared.event.Op.TheVariants.{Commit, DbClose, Rollback, RowsClose}
 use Rattle.dsql_laws_calls.specs.history.Readers.Calls.{is_busy, next_call}
+use Rattle.dsql_laws_calls.specs.history.Readers.Labels.{names_fit}
 use Rattle.dsql_laws_calls.specs.history.Readers.Owed.{owed}
 use Rattle.dsql_laws_calls.specs.history.Rules.Course.{keeps_course}
 use Rattle.dsql_laws_calls.specs.history.Rules.Order.{follows}
@@ -34,11 +35,13 @@ course_of_entry : (H : List Event) (client n : ℕ) (op : Op) → is_empty H ≡
 course_of_entry [] client n op begun = absurd cc
 course_of_entry (e ∷ H) client n op begun = refl
 
-pub entry_allowed : (H : List Event) (client n : ℕ) (op : Op) → n ≡ next_call H → is_empty H ≡ false → is_busy client H ≡ false → Settled H → Allowed H (Entered client n op)
+pub entry_allowed : (H : List Event) (client n : ℕ) (op : Op) → n ≡ next_call H → is_empty H ≡ false → is_busy client H ≡ false → names_fit H op ≡ true → Settled H → Allowed H (Entered client n op)
 unfolding Allowed
-entry_allowed H client n op next begun free settled = record {
+entry_allowed H client n op next begun free fit settled = record {
   course = course_of_entry H client n op begun;
-  numbers = together (n == next_call H) (not (is_busy client H)) (ap (λ k. n == k) (sym next) ∙ same_itself n) (ap not free);
+  numbers =
+      together (n == next_call H) (not (is_busy client H) && names_fit H op) (ap (λ k. n == k) (sym next) ∙ same_itself n)
+      (together (not (is_busy client H)) (names_fit H op) (ap not free) fit);
   sets = refl;
   limit = refl;
   asking = refl;

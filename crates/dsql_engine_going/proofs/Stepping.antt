@@ -9,6 +9,7 @@ use Rattle.dsql_laws_calls.specs.history.declared.event.Event.TheVariants.{Enter
 use Rattle.dsql_laws_calls.specs.history.declared.event.Op.{Op}
 use Rattle.dsql_laws_calls.specs.history.declared.record.Flight.{Flight}
 use Rattle.dsql_laws_calls.specs.history.Readers.Calls.{is_busy, next_call}
+use Rattle.dsql_laws_calls.specs.history.Readers.Labels.{names_fit}
 use Rattle.dsql_laws_calls.specs.history.Readers.Owed.{owed}
 use Rattle.dsql_laws_calls.specs.history.Readers.Unfinished.{unfinished, is_unfinished}
 use Rattle.dsql_laws_calls.specs.history.Rules.Flights.{is_in_flight}
@@ -56,13 +57,13 @@ parked H n (x ∷ xs) new h =
 
 -- The call may enter, and the moves that this makes due may come.
 
-pub may_append : (desk : Desk) (flights : UnderWay) (client n : ℕ) (op : Op) → n ≡ next_call (past desk) → CanPay desk events_of_a_step → MayStep (past desk) flights → is_busy client (past desk) ≡ false → MayAppend desk (Entered client n op)
-may_append desk flights client n op next pays may free =
+pub may_append : (desk : Desk) (flights : UnderWay) (client n : ℕ) (op : Op) → n ≡ next_call (past desk) → CanPay desk events_of_a_step → MayStep (past desk) flights → is_busy client (past desk) ≡ false → names_fit (past desk) op ≡ true → MayAppend desk (Entered client n op)
+may_append desk flights client n op next pays may free fit =
     let few = few_next (past desk) (Entered client n op) (lawful_kept desk pays.stands) may.settled.nothing_owed in
     record {
       stands = pays.stands;
       paid = let paid = pays.paid in omega (arith, few, paid);
-      allowed = entry_allowed (past desk) client n op next may.begun free may.settled;
+      allowed = entry_allowed (past desk) client n op next may.begun free fit may.settled;
       few = let room = pays.few in omega (arith, room);
     }
 
@@ -80,14 +81,14 @@ may_pay old new flights client n op pays short may appends =
     }
 
 -- The call may go on.
-pub may_go_on : (old new : Desk) (flights : UnderWay) (client n : ℕ) (op : Op) → n ≡ next_call (past old) → CanPay old events_of_a_step → MayStep (past old) flights → is_busy client (past old) ≡ false → Appends old new (Entered client n op) → MayGoOn (past new) flights n
-may_go_on old new flights client n op next pays may free appends =
+pub may_go_on : (old new : Desk) (flights : UnderWay) (client n : ℕ) (op : Op) → n ≡ next_call (past old) → CanPay old events_of_a_step → MayStep (past old) flights → is_busy client (past old) ≡ false → names_fit (past old) op ≡ true → Appends old new (Entered client n op) → MayGoOn (past new) flights n
+may_go_on old new flights client n op next pays may free fit appends =
     let H = past old in
     let K = Entered client n op ∷ H in
     let l : Lawful H = lawful_kept old pays.stands in
     subst (λ (P : List Event). MayGoOn P flights n) (sym appends.event)
     (record {
-      settled = entered_settled H client n op (l, entry_allowed H client n op next may.begun free may.settled) may.settled;
+      settled = entered_settled H client n op (l, entry_allowed H client n op next may.begun free fit may.settled) may.settled;
       unfinished = ap (λ (ns : List ℕ). has n ns) (same_unfinished (owed K) K) ∙ (has_push n n (unfinished H) ∙ or_right (has n (unfinished H)) (n == n) (same_itself n));
       parked = parked H n flights.flights (ap (is_unfinished H) next ∙ next_is_new H l) may.known;
       spare = may.spare;

@@ -1,11 +1,12 @@
 //! The step in which a client's call enters.
-ghost use Rattle.std.specs.Prelude.{◌≡◌, ◌≤◌, ◌+◌, false, length};
+ghost use Rattle.std.specs.Prelude.{◌≡◌, ◌≤◌, ◌+◌, false, true, length};
 ghost use Rattle.dsql_engine_desk.specs.Appending.{Appends, MayAppend};
 ghost use Rattle.dsql_engine_desk.specs.Desk.{trimmed, past};
 ghost use Rattle.dsql_engine_effects.specs.Starts.{Starts};
 ghost use Rattle.dsql_engine_going.specs.Reaching.{CanPay, HasGoneOn, Reaches};
 ghost use Rattle.dsql_engine_going.specs.Stepping.{events_of_a_step, MayStep};
 ghost use Rattle.dsql_laws_calls.specs.history.Readers.Calls.{is_busy, next_call};
+ghost use Rattle.dsql_laws_calls.specs.history.Readers.Labels.{names_fit};
 ghost use Rattle.dsql_laws_calls.specs.history.Rules.Settled.{Settled};
 ghost use Rattle.dsql_laws_calls.specs.history.declared.event.Event.TheVariants.{Entered};
 ghost use Rattle.dsql_laws_calls.specs.works.Limits.{most_within_a_step};
@@ -29,6 +30,7 @@ pub fn enter_call(
     requires few { length (past desk.old) + events_of_a_step ≤ most_within_a_step }
     requires may { MayStep (past desk.old) flights.old }
     requires free { is_busy client (past desk.old) ≡ false }
+    requires names { names_fit (past desk.old) op ≡ true }
     requires starts { Starts (past desk.old) op start }
     ensures reaches { Reaches desk.new (after_enter (past desk.old) client op) }
     ensures trimmed { trimmed desk.new ≡ trimmed desk.old }

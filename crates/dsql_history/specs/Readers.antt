@@ -6,6 +6,7 @@ pub mod HandedOut
 pub mod Unfinished
 pub mod Works
 pub mod Journals
+pub mod Labels
 pub mod Transactions
 pub mod Lines
 pub mod Decisions

@@ -1,5 +1,5 @@
 -- Proves that no unfinished call of a lawful history is call 0. The argument is that calls are numbered from 1.
-use Rattle.std.proofs.Common.{◌≡◌, ◌≢◌, ℕ, ◌≤◌, ◌==◌, Bool, true, false, not, cond, List, [], ◌∷◌, length, length-set, refl, ◌∙◌, arith}
+use Rattle.std.proofs.Common.{◌≡◌, ◌≢◌, ℕ, ◌≤◌, ◌==◌, Bool, true, false, not, ◌&&◌, cond, List, [], ◌∷◌, length, length-set, refl, ◌∙◌, arith}
 use Rattle.std.specs.List.{list_all}
 use Rattle.std.proofs.lemmas.Bool.Decides.{nat_tests}
 use Rattle.std.proofs.lemmas.List.Folds.{list_all-append}
@@ -11,6 +11,7 @@ use Rattle.dsql_history.specs.declared.event.Event.TheVariants.{Entered, Heard, 
 use Rattle.dsql_history.specs.declared.event.Op.{Op}
 use Rattle.dsql_history.specs.Readers.Unfinished.{unfinished, is_unfinished}
 use Rattle.dsql_history.specs.Readers.Calls.{calls, entering, next_call, is_busy}
+use Rattle.dsql_history.specs.Readers.Labels.{names_fit}
 use Rattle.dsql_history.specs.Legal.{Allowed, Lawful}
 use Rattle.dsql_laws.proofs.Tests.{both, together, same_number}
 
@@ -39,7 +40,7 @@ without_some n (m ∷ ns) h =
 
 entered_number : (H : List Event) (client n : ℕ) (op : Op) → Allowed H (Entered client n op) → n ≡ next_call H
 unfolding Allowed
-entered_number H client n op a = let b = both (n == next_call H) (not (is_busy client H)) a.numbers in same_number n (next_call H) b.0
+entered_number H client n op a = let b = both (n == next_call H) (not (is_busy client H) && names_fit H op) a.numbers in same_number n (next_call H) b.0
 
 numbered : (H : List Event) → Lawful H → all_from_one (unfinished H) ≡ true
 numbered [] l = refl

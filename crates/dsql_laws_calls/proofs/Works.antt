@@ -18,6 +18,7 @@ use Rattle.dsql_laws.specs.history.declared.reply.Reply.{Reply}
 use Rattle.dsql_laws.specs.history.Readers.Unfinished.{unfinished, is_unfinished}
 use Rattle.dsql_laws.specs.history.Readers.Works.{works, work, work_of}
 use Rattle.dsql_laws.specs.history.Readers.Calls.{calls, call_record, next_call, is_busy, nobody, entering, decided_by}
+use Rattle.dsql_laws.specs.history.Readers.Labels.{names_fit}
 use Rattle.dsql_laws.specs.history.Legal.{Allowed}
 
 -- Is true if the call looks at what is there, and sends nothing.
@@ -37,7 +38,7 @@ work_stays H _ m h = refl
 -- A call that enters has the next number.
 pub enters_next : (H : List Event) (client n : ℕ) (op : Op) → Allowed H (Entered client n op) → n ≡ length (calls H)
 unfolding Allowed
-enters_next H client n op a = let b = both (n == next_call H) (not (is_busy client H)) a.numbers in same_number n (next_call H) b.0
+enters_next H client n op a = let b = both (n == next_call H) (not (is_busy client H) && names_fit H op) a.numbers in same_number n (next_call H) b.0
 
 pub new_record : (H : List Event) (client n : ℕ) (op : Op) → n ≡ length (calls H) → call_record (Entered client n op ∷ H) n ≡ entering H client op
 new_record H client n op new = row_new (calls H) (entering H client op) n nobody new

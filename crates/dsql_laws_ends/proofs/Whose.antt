@@ -1,6 +1,6 @@
 -- A call keeps its client, and a client has at most one unfinished call: both are shown by induction on the
 -- history.
-use Rattle.std.proofs.Common.{◌≡◌, ◌≢◌, ◌↔◌, ℕ, ◌<◌, ◌≤◌, ◌==◌, ◌⊎◌, inl, inr, Bool, true, false, not, cond, List, [], ◌∷◌, ◌++◌, None, refl, sym, ap, ◌∙◌, arith}
+use Rattle.std.proofs.Common.{◌≡◌, ◌≢◌, ◌↔◌, ℕ, ◌<◌, ◌≤◌, ◌==◌, ◌⊎◌, inl, inr, Bool, true, false, not, ◌&&◌, cond, List, [], ◌∷◌, ◌++◌, None, refl, sym, ap, ◌∙◌, arith}
 use Rattle.std.specs.Prelude.{slice_index_or}
 use Rattle.std.proofs.lemmas.List.{length-append}
 use Rattle.dsql_laws_calls.specs.journal.declared.entry.Entry.{Entry}
@@ -10,6 +10,7 @@ use Rattle.dsql_laws_calls.specs.history.declared.event.Event.TheVariants.{Enter
 use Rattle.dsql_laws_calls.specs.history.declared.event.Op.{Op}
 use Rattle.dsql_laws_calls.specs.history.declared.record.CallRecord.{CallRecord}
 use Rattle.dsql_laws_calls.specs.history.Readers.Calls.{calls, decided_by, entering, is_busy, next_call, nobody, with_record, trying}
+use Rattle.dsql_laws_calls.specs.history.Readers.Labels.{names_fit}
 use Rattle.dsql_laws_calls.specs.history.Readers.Clients.{call_of, client_of, is_free}
 use Rattle.dsql_laws_calls.specs.history.Readers.Pool.{or_none}
 use Rattle.dsql_laws_calls.specs.history.Readers.Tries.{tries, try_number}
@@ -109,9 +110,10 @@ busy_with H client l = (λ busy. free_idle H client l ∙ ap not busy, λ some. 
 pub enters_free : (H : List Event) (client n : ℕ) (op : Op) (m : ℕ) → Allowed H (Entered client n op) → is_unfinished H m ≡ true → client_of H m ≡ client → ⊥
 unfolding Allowed
 enters_free H client n op m a u is =
-    let b = both (n == next_call H) (not (is_busy client H)) a.numbers in
+    let b = both (n == next_call H) (not (is_busy client H) && names_fit H op) a.numbers in
     let busy : is_busy client H ≡ true = any_of (is_of H client) (unfinished H) m u (of_itself H client m is) in
-    let clash : true ≡ false = sym b.1 ∙ ap not busy in
+    let free = both (not (is_busy client H)) (names_fit H op) b.1 in
+    let clash : true ≡ false = sym free.0 ∙ ap not busy in
     cc
 
 pub one_call : (H : List Event) (m n : ℕ) → Lawful H → is_unfinished H m ≡ true → is_unfinished H n ≡ true → client_of H m ≡ client_of H n → m ≡ n

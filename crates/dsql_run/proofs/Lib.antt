@@ -1,3 +1,4 @@
+pub mod Labelled
 pub mod Going
 pub mod Written
 pub mod Heading

@@ -10,7 +10,7 @@ use Rattle.dsql_run_outcome.specs.script_source.declared.stop.Stop.{Stop}
 use Rattle.dsql_run_outcome.specs.script_source.declared.stop.Stop.TheVariants.{Read, Write, Memory, Refused, Full}
 use Rattle.dsql_run_outcome.specs.Headline.{Seen, IsPlayed, NotBegun, RanSo}
 use Rattle.dsql_run_outcome.specs.Runs.{Finishes, IsLinesEnd, is_write_fault}
-use Rattle.dsql_run_outcome.specs.Summing.{NotSummarized, Summarized, WritesPiece, summary, unreported}
+use Rattle.dsql_run_outcome.specs.Summing.{Summarized, WritesPiece, summary, unreported}
 use Rattle.dsql_run.specs.declared.playing.Kept.{Kept}
 
 -- If the lines came to an end, the whole text was written.
@@ -66,12 +66,18 @@ so_many stopped told before after past lines finishes r writes = by told stopped
         subst (λ text. WritesPiece (Err (Refused number fault)) text before.written after.written) (same (counted (over (Err (Refused number fault)) played f tt))) w
     by (Err Full) played f counted unfailed w = w
 
+-- If nothing was written, the outside is as it was without a report.
+seen_same : (before after : Seen) → unreported after ≡ unreported before → (after.written ≡ before.written) × (after.write_faults ≡ before.write_faults) → after ≡ before
+seen_same before after same output =
+    ap (λ (s : Seen). record s { written = after.written; write_faults = after.write_faults }) same
+    ∙ (ap (λ w. record before { written = w; write_faults = after.write_faults }) output.0 ∙ ap (λ n. record before { write_faults = n }) output.1)
+
 -- A run was summed up, or it hadn't begun.
 pub summed : (kept : Option Kept) (stopped told : Result (Unit {0}) Stop) (before after : Seen) → Finishes stopped told → IfSome kept (λ k. RanSo stopped (unreported before) (unreported after) k.player.past k.script.reader.lines)
     → IfSome kept (λ k. WritesPiece told (line_of (summary_of k.script.reader.lines k.player.past)) before.written after.written) → (kept ≡ None → NotBegun stopped (unreported before) (unreported after)) → (kept ≡ None → told ≡ stopped)
-    → (kept ≡ None → after.written ≡ before.written) → Summarized stopped told before after ⊎ NotSummarized told before after
+    → (kept ≡ None → (after.written ≡ before.written) × (after.write_faults ≡ before.write_faults)) → Summarized stopped told before after ⊎ NotBegun told before after
 summed (Some k) stopped told before after finishes ran writes none stays unwritten =
     inl (record { ran = ran.ran; written = so_many stopped told before after k.player.past k.script.reader.lines finishes ran writes })
 summed None stopped told before after finishes ran writes none stays unwritten =
     let not_begun = none refl in
-    inr (record { memory = stays refl ∙ not_begun.memory; unwritten = unwritten refl; same = not_begun.same })
+    inr (record { memory = stays refl ∙ not_begun.memory; same = seen_same before after not_begun.same (unwritten refl) })

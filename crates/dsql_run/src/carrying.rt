@@ -1,15 +1,17 @@
 //! Carries out one line of a script and writes its events.
-ghost use Rattle.std.specs.Prelude.{◌≡◌, ◌≤◌, ◌++◌, ◌∷◌, [], List, true, false, length, Err, IfErr, is_some};
+ghost use Rattle.std.specs.Prelude.{◌≡◌, ◌≤◌, ◌+◌, ◌++◌, ℕ, ◌∷◌, [], List, true, false, length, Err, IfErr, is_some};
 ghost use Rattle.dsql_run_outcome.specs.driver.declared.caps.Caps.{Caps};
 ghost use Rattle.dsql_run_outcome.specs.history.declared.event.Event.TheVariants.{Run};
 ghost use Rattle.dsql_run_outcome.specs.follows.declared.line.Line.{Line as Said};
 ghost use Rattle.dsql_run_outcome.specs.follows.Follows.{after};
+ghost use Rattle.dsql_run_outcome.specs.follows.Labels.{times_in};
 ghost use Rattle.dsql_run_outcome.specs.follows.Moments.{Moment};
 ghost use Rattle.dsql_run_outcome.specs.follows.Sentences.{Part};
 ghost use Rattle.dsql_run_outcome.specs.Followed.{FollowsSoFar, StopsShort};
 ghost use Rattle.dsql_run_outcome.specs.Playing.{RunsOn, WritesLine};
 ghost use Rattle.dsql_run_outcome.specs.Runs.{Between, IsPlayStop, is_write_fault, ran_out};
 ghost use Rattle.dsql_run_outcome.specs.run_player.Carried.{Carries, StopsInLine};
+ghost use Rattle.dsql_run_outcome.specs.run_player.Naming.{MakeOnce, times};
 ghost use Rattle.dsql_run_outcome.specs.run_player.Planned.{plans_of};
 ghost use Rattle.dsql_run_outcome.specs.run_player.Playing.{IsAt};
 ghost use Rattle.dsql_run_outcome.specs.laws_steps.Groups.{most_events};
@@ -33,6 +35,7 @@ pub(crate) fn play_line<K: Sink, F: Fleet>(
 ) -> Result<(), Stop>
     requires between { Between F.Wire.told (is_some (F.told fleet.old)) player.old wires.old }
     requires shown { shown.old ≡ length player.old.past }
+    requires names { MakeOnce (λ label. times_in label line) player.old.past player.old.seats }
     requires trimmed { player.old.trimmed ≤ shown.old }
     ensures between { ran_out result ≡ true → Between F.Wire.told (is_some (F.told fleet.new)) player.new wires.new }
     ensures carries { ran_out result ≡ true → (m : Moment) → IsAt m player.old → Carries m line player.old player.new }
@@ -46,6 +49,8 @@ pub(crate) fn play_line<K: Sink, F: Fleet>(
         (F.told fleet.new) player.old.past player.new.past wires.old wires.new }
     ensures asked { RecordsAtMost F.Wire.told (plans_of line player.old.past) (F.told fleet.old)
         (F.told fleet.new) player.old.past player.new.past wires.old wires.new }
+    ensures named { ran_out result ≡ true → (label : List ℕ) → times label player.new.past player.new.seats
+        ≡ times_in label line + times label player.old.past player.old.seats }
     ensures writes { WritesLine result player.old.past player.new.past (K.written output.old) shown.new
         (K.written output.new) }
     ensures trimmed { player.new.trimmed ≡ player.old.trimmed }

@@ -1,5 +1,5 @@
 //! Plays a script from its first line to its end.
-ghost use Rattle.std.specs.Prelude.{◌≡◌, ◌≤◌, ℕ, Bool, List, [], ◌∷◌, Option, None, true, false, length, Err, is_some, IfSome};
+ghost use Rattle.std.specs.Prelude.{◌≡◌, ◌≤◌, ℕ, Bool, List, [], ◌∷◌, Option, None, true, false, length, Err, is_some, IfOk, IfSome};
 ghost use Rattle.dsql_run_outcome.specs.driver.declared.caps.Caps.{Caps};
 ghost use Rattle.dsql_run_outcome.specs.driver.Streams.{HasRisen, has_risen};
 ghost use Rattle.dsql_run_outcome.specs.history.declared.event.Event.TheVariants.{Run};
@@ -7,7 +7,7 @@ ghost use Rattle.dsql_run_outcome.specs.follows.declared.line.Line.{Line};
 ghost use Rattle.dsql_run_outcome.specs.follows.Moments.{just_begun};
 ghost use Rattle.dsql_run_outcome.specs.Headline.{IsPlayed, NotBegun, RanSo, seen};
 ghost use Rattle.dsql_run_outcome.specs.Lent.{lent};
-ghost use Rattle.dsql_run_outcome.specs.Playing.{HasHead, IsOver, LinesPlayed, ReadsLater, RunsOn, ScriptPlayed, WritesLines, WritesWell};
+ghost use Rattle.dsql_run_outcome.specs.Playing.{HasHead, IsOver, LinesPlayed, MatchesLabels, ReadsLater, RunsOn, ScriptPlayed, WritesLines, WritesWell};
 ghost use Rattle.dsql_run_outcome.specs.Runs.{Between, Writes, is_write_fault, ran_out};
 ghost use Rattle.dsql_run_outcome.specs.run_player.Playing.{IsAt, IsReady};
 ghost use Rattle.dsql_run_outcome.specs.script_source.Reading.{IsHeadRead};
@@ -47,6 +47,7 @@ fn play_lines<S: Source, K: Sink, F: Fleet>(
     requires shown { shown.old ≡ 0 }
     requires whole { player.old.trimmed ≡ 0 }
     requires first { IsHeadRead first script.old.reader }
+    requires named { IfOk first (λ line. MatchesLabels line script.old.reader player.old) }
     ensures between { ran_out result ≡ true → Between F.Wire.told (is_some (F.told fleet.new)) player.new wires.new }
     ensures lines { (before : Option (List ℕ)) (asked : Option Caps) (skipped : List Line)
         → HasHead first before script.old (S.left input.old) asked skipped
@@ -97,6 +98,7 @@ fn play_from<S: Source, K: Sink, F: Fleet>(
     requires ready { IsReady player.old }
     requires whole { player.old.trimmed ≡ 0 }
     requires first { IsHeadRead first script.old.reader }
+    requires named { IfOk first (λ line. MatchesLabels line script.old.reader player.old) }
     ensures on { RunsOn F.Fleet fleet.old fleet.new player.old.past player.new.past }
     ensures script { (before : Option (List ℕ)) (asked : Option Caps) (skipped : List Line) (failed : Bool)
         → HasHead first before script.old (S.left input.old) asked skipped
@@ -201,8 +203,9 @@ pub(crate) fn play_keeping<S: Source, K: Sink, F: Fleet>(
 ///
 /// # Errors
 ///
-/// Fails with what stopped the script. If the sink failed, memory was wanting, or the events became too many
-/// after that, fails with the later fault.
+/// Fails with `Memory` before it reads anything if there is no memory with which a run begins. Fails with what stopped
+/// the script otherwise. If the sink failed, memory was wanting, or the events became too many after that, fails with
+/// the later fault.
 pub fn play<S: Source, K: Sink, F: Fleet>(
     alloc: Global,
     input: &mut S,

@@ -66,6 +66,7 @@ pub(crate) fn show_history<K: Sink>(
 pub(crate) fn trim_shown(player: &mut Player, keeps: bool)
     requires { player.old.trimmed ≤ length player.old.past }
     ensures past { player.new.past ≡ player.old.past }
+    ensures seats { player.new.seats ≡ player.old.seats }
     ensures within { player.new.trimmed ≤ length player.new.past }
     ensures kept { keeps ≡ true → player.new.trimmed ≡ player.old.trimmed }
     ensures trimmed { keeps ≡ false → length player.old.past < most_events

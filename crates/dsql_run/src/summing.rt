@@ -2,7 +2,7 @@
 ghost use Rattle.std.specs.Prelude.{◌≡◌, None, true, false, IfSome};
 ghost use Rattle.dsql_run_outcome.specs.driver.Streams.{HasRisen};
 ghost use Rattle.dsql_run_outcome.specs.Headline.{seen, seen_notes};
-ghost use Rattle.dsql_run_outcome.specs.Runs.{Finishes, IsLinesEnd, is_write_fault, no_write_failed};
+ghost use Rattle.dsql_run_outcome.specs.Runs.{Finishes, IsLinesEnd, is_write_fault};
 ghost use Rattle.dsql_run_outcome.specs.Summing.{SumsUpAndTells, WritesPiece};
 ghost use Rattle.dsql_run_outcome.specs.script_show.Summary.{line_of, summary_of};
 
@@ -75,7 +75,7 @@ fn write_summary<K: Sink>(
     ensures stays { kept.now ≡ None → result ≡ stopped }
     ensures caused { result ≡ Err Stop.Write → is_write_fault stopped ≡ false
         → HasRisen (K.faults output.old) (K.faults output.new) }
-    ensures faultless { no_write_failed result ≡ true → K.faults output.new ≡ K.faults output.old }
+    ensures faultless { is_write_fault result ≡ false → K.faults output.new ≡ K.faults output.old }
 {
     let Some(kept) = kept else {
         return stopped;

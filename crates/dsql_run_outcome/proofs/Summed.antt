@@ -7,10 +7,10 @@ use Rattle.dsql_script_show.specs.Report.{with_text}
 use Rattle.dsql_script_generator.specs.Script.{generated}
 use Rattle.dsql_script_source.specs.declared.stop.Stop.{Stop}
 use Rattle.dsql_script_source.specs.declared.stop.Stop.TheVariants.{Read}
-use Rattle.dsql_run_outcome.specs.Headline.{Seen, SeenNotes}
+use Rattle.dsql_run_outcome.specs.Headline.{NotBegun, Seen, SeenNotes}
 use Rattle.dsql_run_outcome.specs.Notes.{Tells, is_status}
-use Rattle.dsql_run_outcome.specs.Runs.{Finishes, no_write_failed}
-use Rattle.dsql_run_outcome.specs.Summing.{GeneratesAndTells, SeenOutput, Summarized, NotSummarized, SumsUpAndTells, SumsUpWhole}
+use Rattle.dsql_run_outcome.specs.Runs.{Finishes, is_write_fault}
+use Rattle.dsql_run_outcome.specs.Summing.{GeneratesAndTells, SeenOutput, Summarized, SumsUpAndTells, SumsUpWhole}
 use Rattle.dsql_run_outcome.proofs.Telling.{told_of_none, told_is_known, stopped_at_three, stopped_at_four}
 
 summed_of_ran : (stopped told : Result (Unit {0}) Stop) (before after : Seen) (one two : SeenNotes) → stopped ≡ Ok tt → told ≡ Ok tt → two.written ≡ one.written → after.write_faults ≡ before.write_faults → Summarized stopped told before after
@@ -49,8 +49,8 @@ summed_at_zero before after one two status is p =
     let none = told_of_none p.told (has_risen one.faults two.faults) one.written two.written (subst (λ s. Tells p.told (has_risen one.faults two.faults) one.written two.written s) is p.tells) in
     by none.0 none.1 p.ran
   where
-    by : p.told ≡ Ok tt → two.written ≡ one.written → Summarized p.stopped p.told before after ⊎ NotSummarized p.told before after → SumsUpWhole before after one two
-    by out untold (inl s) = summed_of_ran p.stopped p.told before after one two (ended_well p.stopped p.told p.finishes out) out untold (p.written_well (ap no_write_failed out)) s
+    by : p.told ≡ Ok tt → two.written ≡ one.written → Summarized p.stopped p.told before after ⊎ NotBegun p.told before after → SumsUpWhole before after one two
+    by out untold (inl s) = summed_of_ran p.stopped p.told before after one two (ended_well p.stopped p.told p.finishes out) out untold (p.written_well (ap is_write_fault out)) s
     by out untold (inr n) = absurd (cc (sym out ∙ n.memory))
 
 -- A run that was asked for its summary has one of the statuses.

@@ -90,7 +90,7 @@ pub record RanSo (stopped : Result Unit Stop) (before after : Seen) (past : List
   pub is : ran.history ≡ past
   pub counted : IsLinesEnd stopped → length ran.lines ≡ read_lines
 
--- Holds if there was no memory with which a run begins. Nothing was read, written or asked for.
+-- Holds if the run stopped for want of memory before it began. The source, the sink and the fleet look as before.
 pub record NotBegun (stopped : Result Unit Stop) (before after : Seen) : Type 0 where
   pub memory : stopped ≡ Err Memory
   pub same : after ≡ before

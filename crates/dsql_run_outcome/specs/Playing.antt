@@ -17,11 +17,14 @@ use Rattle.dsql_follows.specs.Sentences.{Part}
 use Rattle.dsql_follows.specs.Follows.{after}
 use Rattle.dsql_run_wires.specs.Extends.{Extends}
 use Rattle.dsql_run_wires.specs.Told.{SameAbility, with_told}
+use Rattle.dsql_run_player.specs.Naming.{times}
 use Rattle.dsql_run_player.specs.Planned.{plans_made}
 use Rattle.dsql_run_player.specs.Playing.{Playing, IsAt}
+use Rattle.dsql_script_reader.specs.ScriptHead.{Progress}
 use Rattle.dsql_script_reader.specs.declared.script.ScriptLine.{ScriptLine}
 use Rattle.dsql_script_report.specs.Lines.{text_of}
 use Rattle.dsql_script_show.specs.Report.{with_text, StopsBetween}
+use Rattle.dsql_script_source.specs.Naming.{known, times_next}
 use Rattle.dsql_script_source.specs.Plays.{Plays, saying}
 use Rattle.dsql_script_source.specs.Position.{Position}
 use Rattle.dsql_script_source.specs.Reading.{ReadTo, came}
@@ -53,6 +56,12 @@ pub record HasHead (first : Result (Option ScriptLine) Stop) (before : Option (L
   pub silent : list_all is_skip skipped ≡ true
   pub counted : length skipped + came first ≡ reader.reader.lines
   pub reads : ReadTo first before reader left (saying asked skipped)
+
+-- Holds if the lines that were read make each label as often as the run and the next line do together. The run makes a
+-- label by its calls and its kept lines.
+abbrev pub MatchesLabels : Option ScriptLine → Progress → Playing → Type 0
+MatchesLabels line reader player =
+    (label : List ℕ) → known label reader ≡ times_next label line + times label player.past player.seats
 
 -- Says what was written of a line if all of the history before it was written, and how many events were shown.
 pub record WritesLine (stopped : Result Unit Stop) (old new : List Event) (held : Option (List ℕ)) (count : ℕ)

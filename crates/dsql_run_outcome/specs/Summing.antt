@@ -10,9 +10,9 @@ use Rattle.dsql_script_source.specs.declared.stop.Stop.{Stop}
 use Rattle.dsql_script_source.specs.declared.stop.Stop.TheVariants.{Write, Memory, Full}
 use Rattle.dsql_script_generator.specs.declared.words.Command.{Command}
 use Rattle.dsql_script_generator.specs.declared.words.Command.TheVariants.{Play, Summarize, Generate}
-use Rattle.dsql_run_outcome.specs.Headline.{Seen, SeenNotes, Ran, PlaysWholeAs}
+use Rattle.dsql_run_outcome.specs.Headline.{NotBegun, PlaysWholeAs, Ran, Seen, SeenNotes}
 use Rattle.dsql_run_outcome.specs.Notes.{Tells}
-use Rattle.dsql_run_outcome.specs.Runs.{Finishes, no_write_failed}
+use Rattle.dsql_run_outcome.specs.Runs.{Finishes, is_write_fault, no_write_failed}
 
 -- Returns the summary of a run of these lines with this history.
 abbrev pub summary : List Line → List Event → List ℕ
@@ -35,21 +35,15 @@ pub record Summarized (stopped told : Result Unit Stop) (before after : Seen) : 
   pub ran : Ran stopped (unreported before) (unreported after)
   pub written : WritesPiece told (summary ran.lines ran.history) before.written after.written
 
--- Holds if there was no memory with which a run begins. Nothing was read, written or asked for.
-pub record NotSummarized (told : Result Unit Stop) (before after : Seen) : Type 0 where
-  pub memory : told ≡ Err Memory
-  pub unwritten : after.written ≡ before.written
-  pub same : unreported after ≡ unreported before
-
 -- Holds if a script was played for its summary. The notes and the status report what stopped it, or what stopped the
 -- writing of the summary.
 pub record SumsUpAndTells (before after : Seen) (notes_before notes_after : SeenNotes) (status : ℕ) : Type 0 where
   pub stopped : Result Unit Stop
   pub told : Result Unit Stop
   pub finishes : Finishes stopped told
-  pub ran : Summarized stopped told before after ⊎ NotSummarized told before after
+  pub ran : Summarized stopped told before after ⊎ NotBegun told before after
   pub write_fault : told ≡ Err Write → HasRisen before.write_faults after.write_faults
-  pub written_well : no_write_failed told ≡ true → after.write_faults ≡ before.write_faults
+  pub written_well : is_write_fault told ≡ false → after.write_faults ≡ before.write_faults
   pub tells : Tells told
       (has_risen notes_before.faults notes_after.faults) notes_before.written notes_after.written status
 

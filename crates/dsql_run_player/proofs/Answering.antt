@@ -36,7 +36,8 @@ use Rattle.dsql_run_wires.proofs.Asking.{wire_sends}
 use Rattle.dsql_run_player.specs.Playing.{FitsCall, IsReady, KeepsLines, Playing}
 use Rattle.dsql_run_player.specs.Stepping.{HearsAnswer}
 use Rattle.dsql_run_player.proofs.Grouped.{Grouped, hears_grouped}
-use Rattle.dsql_run_player.proofs.Ready.{answer_ready, holds_none}
+use Rattle.dsql_run_player.proofs.Named.{lines_fit, names_none}
+use Rattle.dsql_run_player.proofs.Ready.{answer_ready}
 use Rattle.dsql_run_player.specs.Acts.{Hands}
 
 -- Holds if a client that was handed this permit has it for its call, whose driver call is under way.
@@ -140,11 +141,15 @@ module _ (permit : Permit) (e : Entry) (next : Next) (client : ℕ) (before afte
       subst (λ b. cond {A = Type 0} b (Rests (without_flight e.call_no before.flights) after.flights next) (HasGoneOn after.past (without_flight e.call_no before.flights) after.flights e.call_no next))
       of_a_call a.went
 
+  pub answered_grouped : Grouped before.past after.past (Heard e) e.call_no
+  answered_grouped = subst (λ H. Grouped before.past H (Heard e) e.call_no) (sym a.past) (hears_grouped before.past e (subst (λ H. Lawful H) a.past a.legal.lawful))
+
   pub answered_ready : IsReady after
   answered_ready =
       answer_ready before after client e next a.ready a.has.busy its_number
       (subst (λ n. flies n e.conn before.flights ≡ true) (sym (entry_number permit e a.entry)) (subst (λ c. flies permit.call_no c before.flights ≡ true) (sym (entry_conn permit e a.entry)) a.has.there))
-      a.past gone a.legal (a.chore ∙ (ap (λ b. cond b None before.chore) of_a_call ∙ a.ready.free)) a.hands (holds_none before after a.lines a.ready.held)
+      a.past gone a.legal (a.chore ∙ (ap (λ b. cond b None before.chore) of_a_call ∙ a.ready.free)) a.hands
+      (lines_fit before after a.lines (names_none before.past after.past (Heard e) e.call_no answered_grouped refl) a.ready.lines)
 
   pub answered_hears : HearsAnswer (call_of before.past client) before after
   answered_hears = record {
@@ -155,6 +160,3 @@ module _ (permit : Permit) (e : Entry) (next : Next) (client : ℕ) (before afte
     went = subst (λ n. HasGoneOn after.past (without_flight n before.flights) after.flights n next) its_number gone;
     lines = a.lines;
   }
-
-  pub answered_grouped : Grouped before.past after.past (Heard e) e.call_no
-  answered_grouped = subst (λ H. Grouped before.past H (Heard e) e.call_no) (sym a.past) (hears_grouped before.past e (subst (λ H. Lawful H) a.past a.legal.lawful))

@@ -41,6 +41,7 @@ use Rattle.dsql_run_player.specs.Playing.{IsReady, KeepsLines, Playing}
 use Rattle.dsql_run_player.specs.Stepping.{HearsAnswer, leave_of}
 use Rattle.dsql_run_player.proofs.Allowed.{allowed_welcome}
 use Rattle.dsql_run_player.proofs.Answering.{Answered, HasLeave, answered_grouped, answered_hears, answered_ready, may_be_heard}
+use Rattle.dsql_run_player.proofs.Named.{names_none, times_still}
 use Rattle.dsql_run_player.proofs.Grouped.{Grouped, grows}
 use Rattle.dsql_run_player.proofs.Hearing.{answer_fits, answer_plans, answer_told}
 use Rattle.dsql_run_player.proofs.Whose.{end_step}
@@ -157,7 +158,11 @@ module _ {W : Type 0} (told : W → Option WireTold) (permit : Permit) (e : Entr
   asks_ended = ap has_ended group.grown ∙ step_ended before.past group.events (Heard e) e.call_no (end_step before.past after.past (Heard e) e.call_no group a.legal.lawful)
 
   pub asks_course : SameCourse before after
-  asks_course = record { ended = asks_ended; released = a.released }
+  asks_course = record {
+    ended = asks_ended;
+    released = a.released;
+    named = times_still before after answers.lines (names_none before.past after.past (Heard e) e.call_no group refl);
+  }
 
   opens_none : is_connect permit.call ≡ false
   opens_none = leave_opens_none before.past permit a.ready.legal.lawful a.has.leave

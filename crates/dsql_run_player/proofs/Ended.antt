@@ -43,7 +43,7 @@ ran_out (Ok x) over old new released ended ready course none nobody = record { r
 ran_out (Err e) over old new released ended ready course none nobody = tt
 
 pub quiet_out : (over : Bool) (p : Playing) → RanOut over p → is_quiet p.past ≡ true
-quiet_out over p out = is_quiet_then p out.ready (out.ready.held out.released) out.none out.nobody
+quiet_out over p out = is_quiet_then p out.ready (out.ready.lines.held out.released) out.none out.nobody
 
 pub over_out : (p : Playing) → RanOut true p → IsOver p.past
 over_out p out = all_over p out.ready out.released out.ended out.none out.nobody

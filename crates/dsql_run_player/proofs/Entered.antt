@@ -1,6 +1,6 @@
 -- Proves that the player stays ready and makes one step in each of three acts. A call enters, a limit or the moment is
 -- set, and the run ends.
-use Rattle.std.proofs.Common.{◌≡◌, ◌≢◌, ◌≤◌, ◌<◌, inl, inr, ℕ, Bool, true, false, not, ◌&&◌, List, ◌++◌, length, Option, Result, Ok, Err, refl, sym, ap, subst, ◌∙◌, arith}
+use Rattle.std.proofs.Common.{◌≡◌, ◌≢◌, ◌≤◌, ◌<◌, inl, inr, ℕ, Bool, true, false, not, ◌&&◌, ◌+◌, List, ◌++◌, length, Option, Result, Ok, Err, refl, sym, ap, subst, ◌∙◌, arith}
 use Rattle.std.specs.Prelude.{◌∷◌, OnErr}
 use Rattle.dsql_engine_laws.specs.journal.declared.entry.Permit.{Permit}
 use Rattle.dsql_engine_laws.specs.history.declared.event.Event.{Event}
@@ -19,7 +19,9 @@ use Rattle.dsql_engine_laws.specs.going.declared.next.Next.{Next}
 use Rattle.dsql_engine_laws.specs.going.Reaching.{HasGoneOn}
 use Rattle.dsql_engine_laws.proofs.laws_ends.Steps.{step_ended}
 use Rattle.dsql_engine_laws.proofs.laws_ends.Whose.{free_idle}
+use Rattle.dsql_engine_laws.specs.follows.Labels.{times_by, times_made}
 use Rattle.dsql_engine_laws.specs.follows.Moments.{Moment}
+use Rattle.dsql_laws_lines.specs.Entries.{is_entry}
 use Rattle.dsql_run_wires.specs.declared.seats.KeptLine.{KeptLine}
 use Rattle.dsql_run_wires.specs.Seats.{Seat, seat}
 use Rattle.dsql_engine_laws.specs.laws_steps.Steps.{MakesStep}
@@ -28,17 +30,19 @@ use Rattle.dsql_engine_laws.specs.laws_steps.Groups.{after_control, after_end, a
 use Rattle.dsql_engine_laws.proofs.going.GoneOn.{call_whole}
 use Rattle.dsql_run_wires.specs.Told.{hears_nothing}
 use Rattle.dsql_engine.specs.Core.{Core}
-use Rattle.dsql_run_player.specs.Keeping.{ActsUnheard, FailsForMemory, SameCourse}
+use Rattle.dsql_run_player.specs.Keeping.{ActsUnheard, FailsForMemory, SameCourse, TakesUp}
 use Rattle.dsql_run_player.specs.declared.halt.Halt.{Halt}
 use Rattle.dsql_run_player.specs.declared.halt.Halt.TheVariants as halts
 use Rattle.dsql_run_player.specs.Acts.{Hands, SamePermits}
 use Rattle.dsql_run_player.specs.Carried.{HearsNothing}
-use Rattle.dsql_run_player.specs.Playing.{HoldsNone, IsAt, IsAtBut, IsReady, KeepsLines, Playing}
+use Rattle.dsql_run_player.specs.Naming.{MakeOnce, times}
+use Rattle.dsql_run_player.specs.Playing.{HoldsNone, IsAt, IsAtBut, IsReady, KeepsLines, LinesFit, Playing}
 use Rattle.dsql_run_player.specs.Stepping.{IsEnd, IsEntryOf, IsTold, TakesStep, leave_of}
 use Rattle.dsql_run_player.proofs.Grouped.{Grouped, control_grouped, ends_grouped, enters_grouped, grows}
 use Rattle.dsql_run_player.proofs.Ending.{has_ended_then}
 use Rattle.dsql_run_player.proofs.Hearing.{hears_none, step_quiet}
-use Rattle.dsql_run_player.proofs.Ready.{control_ready, end_ready, entry_ready, holds_none}
+use Rattle.dsql_run_player.proofs.Named.{at_hand_same, lines_fit, names_none, times_grouped, times_still}
+use Rattle.dsql_run_player.proofs.Ready.{control_ready, end_ready, entry_ready}
 use Rattle.dsql_run_player.proofs.Standing.{EntersLine, HasGoneFar, entry_taken}
 use Rattle.dsql_run_player.proofs.Taking.{control_taken, end_taken}
 use Rattle.dsql_run_player.proofs.Whose.{end_step}
@@ -72,6 +76,7 @@ seats_call client leave held seats made handed now same room many hand hand_othe
 pub record HasEntered (client : ℕ) (line : KeptLine) (next : Next) (before after : Playing) : Type 0 where
   pub ready : IsReady before
   pub free : is_busy client before.past ≡ false
+  pub names : MakeOnce (λ label. times_by label line.op) before.past before.seats
   pub past : after.past ≡ after_enter before.past client line.op
   pub went : HasGoneOn after.past before.flights after.flights (next_call before.past) next
   pub legal : Legal after.past
@@ -120,16 +125,26 @@ module _ (client : ℕ) (line : KeptLine) (next : Next) (before after : Playing)
     others = λ other apart. ap (λ (s : Seat). s.held) (h.seated.others other apart);
   }
 
+  -- The label that the call makes is made once more.
+  pub entry_names : (label : List ℕ) → times label after.past after.seats ≡ times_by label line.op + times label before.past before.seats
+  entry_names label =
+      let past = times_grouped label before.past after.past first number entry_group in
+      let hand = at_hand_same label before.seats after.seats same_kept in
+      omega (arith, past, hand)
+
   -- At the script's end neither this call nor any other is held.
   entry_free : HoldsNone after
   entry_free at_end other = elim (same_or_not other client) [
     | inl same ↦
         subst (λ (c : ℕ). (seat after.seats c).held ≡ false) (sym same) (ap (λ (s : Seat). s.held) h.seated.its ∙ ap (λ b. not b && line.held) (sym h.released ∙ at_end))
-    | inr apart ↦ ap (λ (s : Seat). s.held) (h.seated.others other apart) ∙ h.ready.held (sym h.released ∙ at_end) other
+    | inr apart ↦ ap (λ (s : Seat). s.held) (h.seated.others other apart) ∙ h.ready.lines.held (sym h.released ∙ at_end) other
   ]
 
+  entry_fits : LinesFit after
+  entry_fits = record { held = entry_free; named = λ label. let more = entry_names label in let once = h.names label in omega (arith, more, once) }
+
   pub entry_stays_ready : IsReady after
-  entry_stays_ready = entry_ready before after client line.op next h.ready h.past h.went h.legal (h.chore ∙ h.ready.free) entry_hands entry_free
+  entry_stays_ready = entry_ready before after client line.op next h.ready h.past h.went h.legal (h.chore ∙ h.ready.free) entry_hands entry_fits
 
   pub entry_is_step : (m : Moment) → IsAtBut m client line before → TakesStep m before after (IsEntryOf client)
   entry_is_step m at =
@@ -159,14 +174,15 @@ failed {A} result halt old new is memory same ready =
 
 -- If the player's parts say that a call entered, the call entered.
 pub enters_by : (client : ℕ) (line : KeptLine) (next : Next) (before after : Core) (seats now : List Seat) (released : Bool) (old : Playing)
-    → seen before seats released ≡ old → IsReady old → is_busy client old.past ≡ false
+    → seen before seats released ≡ old → IsReady old → is_busy client old.past ≡ false → MakeOnce (λ label. times_by label line.op) old.past old.seats
     → after.past ≡ after_enter before.past client line.op → HasGoneOn after.past before.flights after.flights (next_call before.past) next → after.chore ≡ before.chore → Legal after.past
     → SeatsCall client (leave_of next) (not released && line.held) seats now → HasEntered client line next old (seen after now released)
-enters_by client line next before after seats now released old is ready free group went chore legal seated =
+enters_by client line next before after seats now released old is ready free names group went chore legal seated =
     subst (λ (p : Playing). HasEntered client line next p (seen after now released)) is
     (record {
       ready = subst IsReady (sym is) ready;
       free = subst (λ (p : Playing). is_busy client p.past ≡ false) (sym is) free;
+      names = subst (λ (p : Playing). MakeOnce (λ label. times_by label line.op) p.past p.seats) (sym is) names;
       past = group;
       went = went;
       legal = legal;
@@ -175,8 +191,8 @@ enters_by client line next before after seats now released old is ready free gro
       seated = seated;
     })
 
-pub entry_course : (client : ℕ) (line : KeptLine) (next : Next) (old new : Playing) → HasEntered client line next old new → SameCourse old new
-entry_course client line next old new h = record { ended = entry_ended client line next old new h; released = h.released }
+pub entry_course : (client : ℕ) (line : KeptLine) (next : Next) (old new : Playing) → HasEntered client line next old new → TakesUp (λ label. times_by label line.op) old new
+entry_course client line next old new h = record { ended = entry_ended client line next old new h; released = h.released; named = entry_names client line next old new h }
 
 pub entry_acts : (client : ℕ) (line : KeptLine) (next : Next) (old new : Playing) → HasEntered client line next old new → ActsUnheard {A = Unit {0}} (Ok tt) old new
 entry_acts client line next old new h = record {
@@ -207,6 +223,10 @@ module _ (before after : Core) (seats : List Seat) (released : Bool) (old : Play
 
 -- A limit or the present moment is set.
 
+enters_none : (control : Control) → is_entry (told control) ≡ false
+enters_none (Tick now) = refl
+enters_none (Set setting k) = refl
+
 answers_nothing : (control : Control) → hears_nothing (told control) ≡ true
 answers_nothing (Tick now) = refl
 answers_nothing (Set setting k) = refl
@@ -227,17 +247,21 @@ module _ (control : Control) (before after : Core) (seats : List Seat) (released
       control_taken m old (seen after seats released) control at (group ∙ ap (λ (p : Playing). after_control p.past control) is) (flights ∙ ap (λ (p : Playing). p.flights) is) legal.lawful
       (as_before before after seats released old is)
 
+  control_unnamed : (label : List ℕ) → times_made label after.past ≡ times_made label old.past
+  control_unnamed = names_none old.past after.past told_first 0 control_group (enters_none (taken old.past control))
+
   pub control_course : SameCourse old (seen after seats released)
   control_course = record {
     ended = ap has_ended control_group.grown ∙ (step_ended old.past control_group.events told_first 0 (end_step old.past after.past told_first 0 control_group legal.lawful) ∙ ends_nothing old.past (taken old.past control));
     released = ap (λ (p : Playing). p.released) is;
+    named = times_still old (seen after seats released) (as_before before after seats released old is) control_unnamed;
   }
 
   pub control_acts : ActsUnheard {A = Unit {0}} (Ok tt) old (seen after seats released)
   control_acts = record {
     ready = control_ready old (seen after seats released) control ready (group ∙ ap (λ (p : Playing). after_control p.past control) is) (flights ∙ ap (λ (p : Playing). p.flights) is) legal
         (chore ∙ (ap (λ (p : Playing). p.chore) is ∙ ready.free)) (same_leave before after seats released old is)
-        (holds_none old (seen after seats released) (as_before before after seats released old is) ready.held);
+        (lines_fit old (seen after seats released) (as_before before after seats released old is) control_unnamed ready.lines);
     unheard = step_quiet old.past after.past told_first 0 control_group (answers_nothing (taken old.past control));
     fails = record { same = tt; memory = tt };
     legal = legal;
@@ -260,7 +284,7 @@ module _ (before after : Core) (seats : List Seat) (released : Bool) (old : Play
   end_acts = record {
     ready = end_ready old (seen after seats released) ready (group ∙ ap (λ (p : Playing). after_end p.past) is) (flights ∙ ap (λ (p : Playing). p.flights) is) legal
         (chore ∙ (ap (λ (p : Playing). p.chore) is ∙ ready.free)) (same_leave before after seats released old is)
-        (holds_none old (seen after seats released) (as_before before after seats released old is) ready.held);
+        (lines_fit old (seen after seats released) (as_before before after seats released old is) (names_none old.past after.past Ended 0 end_group refl) ready.lines);
     unheard = step_quiet old.past after.past Ended 0 end_group refl;
     fails = record { same = tt; memory = tt };
     legal = legal;
@@ -291,8 +315,10 @@ same_step m before other after kind same t = record {
 
 -- What holds of an act from one player also holds from any player with the same history.
 
-pub course_since : (mid old new : Playing) → mid.past ≡ old.past → mid.released ≡ old.released → SameCourse mid new → SameCourse old new
-course_since mid old new past released c = record { ended = c.ended ∙ ap has_ended past; released = c.released ∙ released }
+pub course_since : (line : KeptLine) (mid old new : Playing) → mid.past ≡ old.past → mid.released ≡ old.released
+    → ((label : List ℕ) → times_by label line.op + times label mid.past mid.seats ≡ times label old.past old.seats)
+    → TakesUp (λ label. times_by label line.op) mid new → SameCourse old new
+course_since line mid old new past released names c = record { ended = c.ended ∙ ap has_ended past; released = c.released ∙ released; named = λ label. let more = c.named label in let less = names label in omega (arith, more, less) }
 
 pub acts_since : {A : Type 0} (result : Result A Halt) (mid old new : Playing) → mid.past ≡ old.past → ActsUnheard result mid new → ActsUnheard result old new
 acts_since {A} result mid old new past a = record {

@@ -27,6 +27,7 @@ use Rattle.dsql_engine_laws.proofs.Placed.{meets_no_other}
 use Rattle.dsql_engine.specs.Core.{Core}
 use Rattle.dsql_engine.specs.Hearing.{MayBeHeard, is_on, is_under_way}
 use Rattle.dsql_engine_laws.proofs.laws_ends.Steps.{step_ended}
+use Rattle.dsql_engine_laws.specs.follows.Labels.{times_made}
 use Rattle.dsql_engine_laws.specs.follows.Moments.{Moment, landed}
 use Rattle.dsql_run_wires.specs.Seats.{Seat, seat}
 use Rattle.dsql_run_wires.specs.Stopped.{MayCome, Untaken, WantedMemory}
@@ -40,12 +41,14 @@ use Rattle.dsql_engine_laws.proofs.Leave.{leave_kept}
 use Rattle.dsql_engine_laws.proofs.Steps.{layer_flies}
 use Rattle.dsql_engine_laws.proofs.going.GoneOn.{layer_whole}
 use Rattle.dsql_run_player.specs.Chores.{IsAnswered, IsToMake}
+use Rattle.dsql_run_player.specs.Naming.{times}
 use Rattle.dsql_run_player.specs.Playing.{Playing, IsAt, IsReady, KeepsLines}
 use Rattle.dsql_run_player.specs.Stepping.{IsChoreOn, TakesStep}
 use Rattle.dsql_run_player.proofs.Allowed.{allowed_welcome}
 use Rattle.dsql_run_player.proofs.Answering.{entry_conn, entry_number}
 use Rattle.dsql_run_player.proofs.Grouped.{Grouped, hears_alone, hears_grouped}
-use Rattle.dsql_run_player.proofs.Ready.{holds_none, nobody_ready}
+use Rattle.dsql_run_player.proofs.Named.{lines_fit, names_none, times_still}
+use Rattle.dsql_run_player.proofs.Ready.{nobody_ready}
 use Rattle.dsql_run_player.proofs.Seating.{Goes, SameButFor, nobody_flies, same_flights}
 use Rattle.dsql_run_player.proofs.Standing.{HasGoneFar, has_lines, step_taken}
 use Rattle.dsql_run_player.proofs.Taking.{nobody_sends}
@@ -146,8 +149,15 @@ module _ (permit : Permit) (e : Entry) (before after : Playing) (ready : IsReady
     held = λ client. ap (λ (seats : List Seat). (seat seats client).held) took.seats;
   }
 
+  chore_unnamed : (label : List ℕ) → times_made label after.past ≡ times_made label before.past
+  chore_unnamed = names_none before.past after.past (Heard e) 0 chore_group refl
+
+  pub chore_names : (label : List ℕ) → times label after.past after.seats ≡ 0 + times label before.past before.seats
+  chore_names = times_still before after keeps_lines chore_unnamed
+
   pub chore_ready : IsReady after
-  chore_ready = nobody_ready (Heard e) before after ready chore_group refl took.legal took.chore chore_goes same_permits (holds_none before after keeps_lines ready.held)
+  chore_ready =
+      nobody_ready (Heard e) before after ready chore_group refl took.legal took.chore chore_goes same_permits (lines_fit before after keeps_lines chore_unnamed ready.lines)
 
   pub chore_longer : length before.past < length after.past
   chore_longer =

@@ -1,6 +1,6 @@
 -- The lines that a client keeps, and the moments at which the player is with them. The argument compares the
 -- lines that were read with those in the seats.
-use Rattle.std.proofs.Common.{◌≡◌, ◌≢◌, ◌≤◌, ◌⊎◌, inl, inr, ℕ, Bool, true, false, not, ◌&&◌, cond, List, [], ◌∷◌, ◌++◌, drop, length, Option, Some, None, Ok, refl, sym, ap, subst, ◌∙◌, arith}
+use Rattle.std.proofs.Common.{◌≡◌, ◌≢◌, ◌≤◌, ◌⊎◌, inl, inr, ℕ, ◌+◌, Bool, true, false, not, ◌&&◌, cond, List, [], ◌∷◌, ◌++◌, drop, length, Option, Some, None, Ok, refl, sym, ap, subst, ◌∙◌, arith}
 use Rattle.std.specs.Prelude.{slice_get}
 use Rattle.std.proofs.lemmas.List.{map-append}
 use Rattle.dsql_engine_laws.specs.journal.declared.entry.Permit.{Permit}
@@ -13,15 +13,18 @@ use Rattle.dsql_engine_laws.proofs.laws_work.Rows.{same_or_not}
 use Rattle.dsql_engine_laws.proofs.laws_ends.Whose.{free_idle}
 use Rattle.dsql_engine_laws.specs.follows.declared.line.Line.{Line}
 use Rattle.dsql_engine_laws.specs.follows.declared.line.Line.TheVariants.{Client, Start}
+use Rattle.dsql_engine_laws.specs.follows.Labels.{times_by}
 use Rattle.dsql_engine_laws.specs.follows.Moments.{Moment, is_held, is_line_of, kept, met}
 use Rattle.dsql_engine_laws.specs.follows.Sentences.{enters_now}
 use Rattle.dsql_laws_lines.proofs.KeptLines.{all_made_met, held_with_call, kept_alone, kept_more, kept_same}
 use Rattle.dsql_run_wires.specs.declared.seats.KeptLine.{KeptLine}
 use Rattle.dsql_run_wires.specs.Seats.{Seat, seat}
 use Rattle.dsql_run_player.specs.Acts.{SamePermits}
+use Rattle.dsql_run_player.specs.Naming.{MakeOnce, times}
 use Rattle.dsql_run_player.specs.Playing.{FitsCall, IsAt, IsAtBut, IsReady, Playing, line_kept, lines_kept}
 use Rattle.dsql_run_player.specs.Stepping.{Admits, IsEntryOf, TakesStep}
 use Rattle.dsql_run_player.specs.Keeping.{ActsUnheard}
+use Rattle.dsql_run_player.proofs.Named.{KeepsOnly, taken_names}
 
 -- Holds if a client keeps these lines, and everything else that clients have at hand is as before.
 pub record KeepsSo (client : ℕ) (lines : List KeptLine) (seats now : List Seat) : Type 0 where
@@ -45,9 +48,13 @@ module _ (client : ℕ) (lines : List KeptLine) (seats now : List Seat) (k : Kee
   pub same_permits : SamePermits seats now
   same_permits = record { permit = same_permit; many = k.many }
 
+-- Only that client's kept lines change.
+pub keeps_only : (client : ℕ) (lines : List KeptLine) (seats now : List Seat) → KeepsSo client lines seats now → KeepsOnly client lines seats now
+keeps_only client lines seats now k = record { its = ap (λ (s : Seat). s.kept) k.its; others = λ other apart. ap (λ (s : Seat). s.kept) (k.others other apart) }
+
 -- The player stays ready if a client keeps other lines.
-pub kept_ready : (p : Playing) (client : ℕ) (lines : List KeptLine) (seats : List Seat) → IsReady p → KeepsSo client lines p.seats seats → IsReady (record p { seats = seats })
-kept_ready p client lines seats ready k = record {
+pub kept_ready : (p : Playing) (client : ℕ) (lines : List KeptLine) (seats : List Seat) → IsReady p → KeepsSo client lines p.seats seats → MakeOnce (λ label. 0) p.past seats → IsReady (record p { seats = seats })
+kept_ready p client lines seats ready k once = record {
   legal = ready.legal;
   free = ready.free;
   flying = ready.flying;
@@ -57,7 +64,7 @@ kept_ready p client lines seats ready k = record {
         leave = subst (λ (leave : Option Permit). FitsCall p.past p.flights (call_of p.past other) leave) (sym (same_permit client lines p.seats seats k other)) fits.leave;
         room = λ busy. let room = fits.room busy in let many = k.many in omega (arith, room, many);
       };
-  held = λ released other. same_held client lines p.seats seats k other ∙ ready.held released other;
+  lines = record { held = λ released other. same_held client lines p.seats seats k other ∙ ready.lines.held released other; named = once };
 }
 
 -- Each kept line is a line of its own client only.
@@ -187,6 +194,14 @@ taken_at m p client line seats at first k = record {
     rest : List KeptLine
     rest = drop 1 (seat p.seats client).kept
 
+-- Its label is then made once less.
+pub taken_so : (label : List ℕ) (p : Playing) (client : ℕ) (line : KeptLine) (seats : List Seat) → slice_get (seat p.seats client).kept 0 ≡ Some line
+    → KeepsSo client (drop 1 (seat p.seats client).kept) p.seats seats → times_by label line.op + times label p.past seats ≡ times label p.past p.seats
+taken_so label p client line seats first k =
+    let rest : List KeptLine = drop 1 (seat p.seats client).kept in
+    let less = taken_names label client line rest p.seats seats (first_taken (seat p.seats client).kept line first) (keeps_only client rest p.seats seats k) in
+    omega (arith, less)
+
 -- A line is kept.
 
 pub keeps_at : (client : ℕ) (line : KeptLine) (p old : Playing) (seats : List Seat) → p ≡ old → IsReady old → KeepsSo client ((seat p.seats client).kept ++ line ∷ []) p.seats seats
@@ -195,11 +210,11 @@ keeps_at client line p old seats is ready k =
     subst (λ (q : Playing). (m : Moment) → IsAt m q → IsAt (met (line_kept client line) m) (record p { seats = seats })) is
     (λ m at. kept_at m p client line seats (subst (λ (q : Playing). Lawful q.past) (sym is) ready.legal.lawful) at k)
 
-pub keeps_acts : (client : ℕ) (lines : List KeptLine) (p old : Playing) (seats : List Seat) → p ≡ old → IsReady old → KeepsSo client lines p.seats seats → ActsUnheard {A = Unit {0}} (Ok tt) old (record p { seats = seats })
-keeps_acts client lines p old seats is ready k =
+pub keeps_acts : (client : ℕ) (lines : List KeptLine) (p old : Playing) (seats : List Seat) → p ≡ old → IsReady old → KeepsSo client lines p.seats seats → MakeOnce (λ label. 0) p.past seats → ActsUnheard {A = Unit {0}} (Ok tt) old (record p { seats = seats })
+keeps_acts client lines p old seats is ready k once =
     subst (λ (q : Playing). ActsUnheard {A = Unit {0}} (Ok tt) q (record p { seats = seats })) is
     (record {
-      ready = kept_ready p client lines seats (subst IsReady (sym is) ready) k;
+      ready = kept_ready p client lines seats (subst IsReady (sym is) ready) k once;
       unheard = record { journals = λ c. refl; told = λ made. refl };
       fails = record { same = tt; memory = tt };
       legal = subst (λ (q : Playing). Legal q.past) (sym is) ready.legal;

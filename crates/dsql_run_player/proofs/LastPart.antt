@@ -78,7 +78,7 @@ end_stays m old mid new same b =
 
 pub all_over : (p : Playing) → IsReady p → p.released ≡ true → has_ended p.past ≡ true → chore_due p.past ≡ None → ((client : ℕ) → goes p client ≡ false) → IsOver p.past
 all_over p ready released ended none nobody =
-    over_where_run_out p.past p.flights ready.legal ended (record { known = ready.flying.known; idle = none; still = λ n. still p n ready (ready.held released) nobody })
+    over_where_run_out p.past p.flights ready.legal ended (record { known = ready.flying.known; idle = none; still = λ n. still p n ready (ready.lines.held released) nobody })
 
 none_busy : (past : List Event) (client : ℕ) → unfinished past ≡ [] → is_busy client past ≡ false
 none_busy past client none = ap (λ (ns : List ℕ). list_any (λ n. (call_record past n).client == client) ns) none

@@ -12,6 +12,8 @@ pub mod Grouped
 pub mod Whose
 pub mod Seating
 pub mod Standing
+pub mod Named
+pub mod Releasing
 pub mod Ready
 pub mod Taking
 pub mod Hearing

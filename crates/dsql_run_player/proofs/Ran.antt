@@ -1,6 +1,6 @@
 -- The run goes on by the step whose turn it is. The argument takes the layer's chore, an entry, and a step of a
 -- call in turn.
-use Rattle.std.proofs.Common.{◌≡◌, ◌<◌, ℕ, true, false, not, ◌&&◌, List, ◌++◌, length, Option, None, refl, ap, sym, subst, ◌∙◌}
+use Rattle.std.proofs.Common.{◌≡◌, ◌<◌, ℕ, true, false, not, ◌&&◌, List, ◌++◌, length, Option, None, refl, ap, sym, subst, ◌∙◌, arith}
 use Rattle.std.specs.Prelude.{Result, Ok, Err, OnErr, OnOk}
 use Rattle.std.proofs.lemmas.Result.{on_ok_weaker}
 use Rattle.dsql_engine_laws.specs.driver.Wires.{WireTold}
@@ -32,7 +32,7 @@ use Rattle.dsql_run_player.proofs.Going.{ran_out, so_far}
 use Rattle.dsql_run_player.proofs.MayGo.{goes_busy, goes_free}
 use Rattle.dsql_run_player.proofs.Standing.{answer_taken, has_lines, has_lines_before, landed_alike}
 use Rattle.dsql_run_player.proofs.Turning.{answer_in_turn, chore_in_turn, entry_in_turn, itself_in_turn, out_at, turn_at}
-use Rattle.dsql_run_player.specs.Keeping.{ActsUnheard, SameCourse}
+use Rattle.dsql_run_player.specs.Keeping.{ActsUnheard, SameCourse, TakesUp}
 
 always : {A E P : Type 0} (result : Result A E) → P → OnOk result P
 always (Ok x) p = p
@@ -42,8 +42,12 @@ always_err : {A E P : Type 0} (result : Result A E) → P → OnErr result P
 always_err (Ok x) p = tt
 always_err (Err e) p = p
 
+-- After a line was taken up, and while the run goes on.
+pub takes_up_then : (more : List ℕ → ℕ) (old mid new : Playing) → TakesUp more old mid → SameCourse mid new → TakesUp more old new
+takes_up_then more old mid new a b = record { ended = b.ended ∙ a.ended; released = b.released ∙ a.released; named = λ label. let later = b.named label in let first = a.named label in omega (arith, later, first) }
+
 pub course_then : (old mid new : Playing) → SameCourse old mid → SameCourse mid new → SameCourse old new
-course_then old mid new a b = record { ended = b.ended ∙ a.ended; released = b.released ∙ a.released }
+course_then old mid new a b = takes_up_then (λ label. 0) old mid new a b
 
 -- The wires.
 

@@ -33,22 +33,18 @@ use Rattle.dsql_engine_laws.specs.laws_steps.Steps.{goes_by_itself}
 use Rattle.dsql_engine_laws.specs.Leaves.{IsLeave}
 use Rattle.dsql_engine_laws.specs.Turns.{Flying, flies}
 use Rattle.dsql_engine_laws.proofs.Steps.{answer_flies, end_flies, enter_flies, new_parked, control_flies, wake_flies}
-use Rattle.dsql_run_player.specs.Playing.{HoldsNone, IsReady, KeepsLines, Playing, SeatFits}
+use Rattle.dsql_run_player.specs.Playing.{IsReady, LinesFit, Playing, SeatFits}
 use Rattle.dsql_run_player.proofs.Grouped.{GoneOn, Grouped, ends_grouped, enters_grouped, goes_grouped, hears_grouped, control_grouped}
 use Rattle.dsql_run_player.proofs.Seating.{Goes, OthersStay, SameButFor, and_then, goes_by_step, its_seat, lands, one_call_there, other_seat, same_flights, sends_more}
 use Rattle.dsql_run_player.proofs.Whose.{begins_itself, begins_no_entry, busy_alike, busy_before, busy_call, entry_other, entry_own, its_call, lawful_before, other_call}
 use Rattle.dsql_run_player.specs.Acts.{Hands, SamePermits}
 
--- If no call was held at the script's end, none is held after a step.
-pub holds_none : (before after : Playing) → KeepsLines before after → HoldsNone before → HoldsNone after
-holds_none before after lines none = λ released client. lines.held client ∙ none (sym lines.released ∙ released) client
-
 -- A step of nobody.
 
 -- The player stays ready over a step of the layer, and over a line that sets a limit or ends the run.
 pub nobody_ready : (first : Event) (before after : Playing) → IsReady before → Grouped before.past after.past first 0 → begins_step_of 0 first ≡ true → Legal after.past → after.chore ≡ None
-    → Goes 0 before.past after.past before.flights after.flights → SamePermits before.seats after.seats → HoldsNone after → IsReady after
-nobody_ready first before after ready g begins legal free goes same held = record { legal = legal; free = free; flying = goes.flying; seats = λ client. fits client; held = held }
+    → Goes 0 before.past after.past before.flights after.flights → SamePermits before.seats after.seats → LinesFit after → IsReady after
+nobody_ready first before after ready g begins legal free goes same fit = record { legal = legal; free = free; flying = goes.flying; seats = λ client. fits client; lines = fit }
   where
     none : is_entry first ≡ false
     none = begins_no_entry 0 first begins
@@ -76,29 +72,29 @@ parts_none (Tick now) permit = refl
 parts_none (Set setting k) permit = refl
 
 pub control_ready : (before after : Playing) (control : Control) → IsReady before → after.past ≡ after_control before.past control → after.flights ≡ before.flights → Legal after.past → after.chore ≡ None
-    → SamePermits before.seats after.seats → HoldsNone after → IsReady after
-control_ready before after control ready is fly legal free same held =
+    → SamePermits before.seats after.seats → LinesFit after → IsReady after
+control_ready before after control ready is fly legal free same fit =
     let first = told_after before.past control in
     let g : Grouped before.past after.past first 0 = subst (λ H. Grouped before.past H first 0) (sym is) (control_grouped before.past control) in
     let f : Flying after.past after.flights =
     subst (Flying after.past) (sym fly) (subst (λ H. Flying H before.flights) (sym is) (control_flies before.past control before.flights (subst Lawful is legal.lawful) ready.flying)) in
     let kept : SameButFor 0 before.flights after.flights = subst (SameButFor 0 before.flights) (sym fly) (same_flights 0 before.flights) in
-    nobody_ready first before after ready g (begins_one (taken before.past control)) legal free (goes_by_step first 0 before.past after.past before.flights after.flights g legal.lawful f kept (λ permit there apart. parts_none (taken before.past control) permit)) same held
+    nobody_ready first before after ready g (begins_one (taken before.past control)) legal free (goes_by_step first 0 before.past after.past before.flights after.flights g legal.lawful f kept (λ permit there apart. parts_none (taken before.past control) permit)) same fit
 
-pub end_ready : (before after : Playing) → IsReady before → after.past ≡ after_end before.past → after.flights ≡ before.flights → Legal after.past → after.chore ≡ None → SamePermits before.seats after.seats → HoldsNone after → IsReady after
-end_ready before after ready is fly legal free same held =
+pub end_ready : (before after : Playing) → IsReady before → after.past ≡ after_end before.past → after.flights ≡ before.flights → Legal after.past → after.chore ≡ None → SamePermits before.seats after.seats → LinesFit after → IsReady after
+end_ready before after ready is fly legal free same fit =
     let g : Grouped before.past after.past Ended 0 = subst (λ H. Grouped before.past H Ended 0) (sym is) (ends_grouped before.past) in
     let f : Flying after.past after.flights =
     subst (Flying after.past) (sym fly) (subst (λ H. Flying H before.flights) (sym is) (end_flies before.past before.flights (subst Lawful is legal.lawful) ready.flying)) in
     let kept : SameButFor 0 before.flights after.flights = subst (SameButFor 0 before.flights) (sym fly) (same_flights 0 before.flights) in
-    nobody_ready Ended before after ready g refl legal free (goes_by_step Ended 0 before.past after.past before.flights after.flights g legal.lawful f kept (λ permit there apart. refl)) same held
+    nobody_ready Ended before after ready g refl legal free (goes_by_step Ended 0 before.past after.past before.flights after.flights g legal.lawful f kept (λ permit there apart. refl)) same fit
 
 -- A step of a client's call.
 
 pub call_ready : (n me : ℕ) (before after : Playing) (base : List Flight) (next : Next) → IsReady before → Legal after.past → after.chore ≡ None → Goes n before.past after.past before.flights after.flights
     → OthersStay n me before.past after.past before.seats after.seats → is_in_flight n base ≡ false → HasGoneOn after.past base after.flights n next
-    → call_of after.past me ≡ cond (is_unfinished after.past n) n 0 → Hands me next before.seats after.seats → HoldsNone after → IsReady after
-call_ready n me before after base next ready legal free goes others parked went call hands held = record { legal = legal; free = free; flying = goes.flying; seats = fits; held = held }
+    → call_of after.past me ≡ cond (is_unfinished after.past n) n 0 → Hands me next before.seats after.seats → LinesFit after → IsReady after
+call_ready n me before after base next ready legal free goes others parked went call hands fit = record { legal = legal; free = free; flying = goes.flying; seats = fits; lines = fit }
   where
     fits : (client : ℕ) → SeatFits after.past after.flights after.seats client
     fits client = elim (same_or_not client me) [
@@ -107,9 +103,9 @@ call_ready n me before after base next ready legal free goes others parked went 
     ]
 
 pub entry_ready : (before after : Playing) (client : ℕ) (op : Op) (next : Next) → IsReady before → after.past ≡ after_enter before.past client op
-    → HasGoneOn after.past before.flights after.flights (next_call before.past) next → Legal after.past → after.chore ≡ None → Hands client next before.seats after.seats → HoldsNone after → IsReady after
-entry_ready before after client op next ready is went legal free hands held =
-    call_ready n client before after before.flights next ready legal free goes others (new_parked before.past before.flights lawful ready.flying) went (entry_own before.past after.past client n op g legal.lawful) hands held
+    → HasGoneOn after.past before.flights after.flights (next_call before.past) next → Legal after.past → after.chore ≡ None → Hands client next before.seats after.seats → LinesFit after → IsReady after
+entry_ready before after client op next ready is went legal free hands fit =
+    call_ready n client before after before.flights next ready legal free goes others (new_parked before.past before.flights lawful ready.flying) went (entry_own before.past after.past client n op g legal.lawful) hands fit
   where
     n : ℕ
     n = next_call before.past
@@ -174,10 +170,10 @@ others_stay first me past history seats now next g l busy begins hands = record 
 
 pub answer_ready : (before after : Playing) (me : ℕ) (e : Entry) (next : Next) → IsReady before → is_busy me before.past ≡ true → e.call_no ≡ call_of before.past me
     → flies e.call_no e.conn before.flights ≡ true → after.past ≡ after_heard before.past e → HasGoneOn after.past (without_flight e.call_no before.flights) after.flights e.call_no next
-    → Legal after.past → after.chore ≡ None → Hands me next before.seats after.seats → HoldsNone after → IsReady after
-answer_ready before after me e next ready busy its there is went legal free hands held =
+    → Legal after.past → after.chore ≡ None → Hands me next before.seats after.seats → LinesFit after → IsReady after
+answer_ready before after me e next ready busy its there is went legal free hands fit =
     call_ready n me before after base next ready legal free goes others (subst (λ k. is_in_flight n (without_flight k before.flights) ≡ false) (sym its) (landed_apart n before.flights))
-    (subst (λ k. HasGoneOn after.past base after.flights k next) its went) (its_call before.past after.past (Heard e) me g legal.lawful refl busy) hands held
+    (subst (λ k. HasGoneOn after.past base after.flights k next) its went) (its_call before.past after.past (Heard e) me g legal.lawful refl busy) hands fit
   where
     n : ℕ
     n = call_of before.past me
@@ -218,8 +214,8 @@ itself_spares n e permit h apart = absurd cc
 
 pub wake_ready : (before after : Playing) (me : ℕ) (next : Next) → IsReady before → is_busy me before.past ≡ true → is_in_flight (call_of before.past me) before.flights ≡ false
     → after.past ≡ gone_on (call_of before.past me) before.past → HasGoneOn after.past before.flights after.flights (call_of before.past me) next → Legal after.past → after.chore ≡ None
-    → Hands me next before.seats after.seats → HoldsNone after → IsReady after
-wake_ready before after me next ready busy parked is went legal free hands held = by (goes_grouped before.past n (busy_call before.past me ready.legal.lawful busy) ready.legal.settled)
+    → Hands me next before.seats after.seats → LinesFit after → IsReady after
+wake_ready before after me next ready busy parked is went legal free hands fit = by (goes_grouped before.past n (busy_call before.past me ready.legal.lawful busy) ready.legal.settled)
   where
     n : ℕ
     n = call_of before.past me
@@ -233,7 +229,7 @@ wake_ready before after me next ready busy parked is went legal free hands held 
     same = subst (SameButFor n before.flights) (sym went.flights) (sends_more n (stand after.past n) before.flights)
 
     ready_by : Goes n before.past after.past before.flights after.flights → OthersStay n me before.past after.past before.seats after.seats → call_of after.past me ≡ cond (is_unfinished after.past n) n 0 → IsReady after
-    ready_by goes others call = call_ready n me before after before.flights next ready legal free goes others parked went call hands held
+    ready_by goes others call = call_ready n me before after before.flights next ready legal free goes others parked went call hands fit
 
     -- The player is ready if nothing came of the step.
     quiet : after.past ≡ before.past → IsReady after

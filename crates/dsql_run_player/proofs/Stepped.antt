@@ -17,6 +17,7 @@ use Rattle.dsql_engine_laws.specs.laws_ends.Over.{may_move}
 use Rattle.dsql_engine_laws.specs.follows.declared.line.Line.{Line}
 use Rattle.dsql_engine_laws.specs.follows.declared.line.Line.TheVariants as lines
 use Rattle.dsql_engine_laws.specs.follows.declared.line.Line.TheVariants.{Client, Fault, Skip, Start, Step, StepHouse}
+use Rattle.dsql_engine_laws.specs.follows.Labels.{times_in}
 use Rattle.dsql_engine_laws.specs.follows.Moments.{Moment}
 use Rattle.dsql_engine_laws.specs.follows.Sentences.{runs_on}
 use Rattle.dsql_run_wires.specs.Seats.{seat}
@@ -108,6 +109,11 @@ runs_then (Start client op) not_start not_step not_house = absurd (not_start cli
 runs_then (Step client) not_start not_step not_house = absurd (not_step client refl)
 runs_then StepHouse not_start not_step not_house = absurd (not_house refl)
 runs_then _ not_start not_step not_house = refl
+
+pub makes_none : (line : Line) → runs_on line ≡ true → ((client : ℕ) (op : Op) → line ≡ Client client op → ⊥) → (label : List ℕ) → times_in label line ≡ 0
+makes_none (Client client op) runs not_client label = absurd (not_client client op refl)
+makes_none (Start client op) runs not_client label = absurd cc
+makes_none line runs not_client label = refl
 
 pub plans_none : (line : Line) (past : List Event) → ((conn nth : ℕ) (what : Planned) → line ≡ Fault conn nth what → ⊥) → plans_of line past ≡ []
 plans_none (Fault conn nth what) past none = absurd (none conn nth what refl)

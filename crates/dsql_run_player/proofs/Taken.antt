@@ -36,7 +36,7 @@ use Rattle.dsql_run_player.specs.Playing.{IsReady, Playing}
 use Rattle.dsql_run_player.specs.Stepping.{MakesChore, leave_of}
 use Rattle.dsql_run_player.proofs.Answering.{entry_number}
 use Rattle.dsql_run_player.proofs.Grouped.{Grouped}
-use Rattle.dsql_run_player.proofs.Housekeeping.{answer_welcome, chore_ended, chore_group, chore_longer, chore_ready, chore_taken, made_so, rests_so}
+use Rattle.dsql_run_player.proofs.Housekeeping.{answer_welcome, chore_ended, chore_group, chore_longer, chore_names, chore_ready, chore_taken, made_so, rests_so}
 use Rattle.dsql_run_player.proofs.Keeping.{run_goes, run_stops}
 use Rattle.dsql_run_player.proofs.Seating.{nobody_flies}
 use Rattle.dsql_run_player.specs.Keeping.{IsTaken, SameCourse}
@@ -184,7 +184,7 @@ module _ (old mid : Playing) (permit : Permit) (ready : IsReady old) (same : Sam
     first_makes = (chore_longer permit taken.entry old after ready leave took, chore_taken permit taken.entry old after ready leave took due)
 
     pub first_course : SameCourse old after
-    first_course = record { ended = chore_ended permit taken.entry old after ready leave took; released = taken.takes.released ∙ same.released }
+    first_course = record { ended = chore_ended permit taken.entry old after ready leave took; released = taken.takes.released ∙ same.released; named = chore_names permit taken.entry old after ready leave took }
 
 -- If there is no call to make, nothing was done.
 pub none_made : (old mid : Playing) (next : Next) → IsReady old → SameButChore old mid → mid.chore ≡ chore_due old.past → chore_next old.past (chore_due old.past) ≡ Some next → ((permit : Permit) → next ≡ Send permit → ⊥)

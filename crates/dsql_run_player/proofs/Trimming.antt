@@ -29,7 +29,7 @@ but_trimmed : (old new : Playing) → SameButTrimmed old new → new ≡ record 
 but_trimmed old new s = same_playing new (record old { trimmed = new.trimmed }) (record { past = s.past; trimmed = refl; flights = s.flights; seats = s.seats; released = s.released }) s.chore
 
 pub ready_still : (old new : Playing) → SameButTrimmed old new → IsReady old → IsReady new
-ready_still old new s r = subst IsReady (sym (but_trimmed old new s)) (record { legal = r.legal; free = r.free; flying = r.flying; seats = λ client. record { leave = (r.seats client).leave; room = (r.seats client).room }; held = r.held })
+ready_still old new s r = subst IsReady (sym (but_trimmed old new s)) (record { legal = r.legal; free = r.free; flying = r.flying; seats = λ client. record { leave = (r.seats client).leave; room = (r.seats client).room }; lines = record { held = r.lines.held; named = r.lines.named } })
 
 pub at_still : (old new : Playing) → SameButTrimmed old new → (m : Moment) → IsAt m old → IsAt m new
 at_still old new s m at =

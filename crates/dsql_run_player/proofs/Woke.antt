@@ -27,6 +27,7 @@ use Rattle.dsql_engine_laws.specs.going.declared.next.Next.TheVariants.{Reply, S
 use Rattle.dsql_engine_laws.specs.going.declared.next.Why.TheVariants.{Turn}
 use Rattle.dsql_engine_laws.proofs.laws_ends.Steps.{step_ended}
 use Rattle.dsql_engine_laws.proofs.laws_ends.Whose.{busy_unfinished}
+use Rattle.dsql_engine_laws.specs.follows.Labels.{times_made}
 use Rattle.dsql_engine_laws.specs.follows.Moments.{Moment}
 use Rattle.dsql_run_wires.specs.Seats.{Seat, seat}
 use Rattle.dsql_engine_laws.specs.laws_steps.Steps.{goes_by_itself}
@@ -38,9 +39,10 @@ use Rattle.dsql_run_player.specs.Playing.{IsAt, IsReady, KeepsLines, Playing}
 use Rattle.dsql_run_player.specs.Stepping.{Wakes, leave_of}
 use Rattle.dsql_run_player.proofs.Grouped.{GoneOn, goes_grouped, grows}
 use Rattle.dsql_run_player.proofs.Hearing.{hears_none, itself_quiet, step_quiet}
-use Rattle.dsql_run_player.proofs.Ready.{holds_none, wake_ready}
+use Rattle.dsql_run_player.proofs.Named.{lines_fit, names_none, times_still}
+use Rattle.dsql_run_player.proofs.Ready.{wake_ready}
 use Rattle.dsql_run_player.proofs.Taking.{wakes}
-use Rattle.dsql_run_player.proofs.Whose.{busy_call, end_step}
+use Rattle.dsql_run_player.proofs.Whose.{begins_itself, begins_no_entry, busy_call, end_step}
 use Rattle.dsql_run_player.proofs.Asked.{Given, given_hands, given_lines}
 
 -- A call that may move and whose history stays the same gets a permit.
@@ -138,10 +140,19 @@ module _ (next : Next) (client : ℕ) (before after : Playing) (w : WakesUp next
   moved : (after.past ≡ before.past) ⊎ GoneOn before.past after.past (call_of before.past client)
   moved = subst (λ (H : List Event). (H ≡ before.past) ⊎ GoneOn before.past H (call_of before.past client)) (sym w.past) (goes_grouped before.past (call_of before.past client) (busy_call before.past client w.ready.legal.lawful w.busy) w.ready.legal.settled)
 
+  woke_unnamed : (label : List ℕ) → times_made label after.past ≡ times_made label before.past
+  woke_unnamed label = by moved
+    where
+      by : (after.past ≡ before.past) ⊎ GoneOn before.past after.past (call_of before.past client) → times_made label after.past ≡ times_made label before.past
+      by (inl same) = ap (times_made label) same
+      by (inr more) =
+          let n = call_of before.past client in
+          names_none before.past after.past more.first n more.grouped (begins_no_entry n more.first (begins_itself n more.first more.itself)) label
+
   pub woke_ready : IsReady after
   woke_ready =
       wake_ready before after client next w.ready w.busy w.parked w.past w.went w.legal (w.chore ∙ w.ready.free) (given_hands client next before.seats after.seats ((w.ready.seats client).room w.busy) w.given)
-      (holds_none before after same_lines w.ready.held)
+      (lines_fit before after same_lines woke_unnamed w.ready.lines)
 
   pub woke_quiet : HearsNothing before.past after.past
   woke_quiet = by moved
@@ -151,7 +162,7 @@ module _ (next : Next) (client : ℕ) (before after : Playing) (w : WakesUp next
       by (inr more) = step_quiet before.past after.past more.first (call_of before.past client) more.grouped (itself_quiet (call_of before.past client) more.first more.itself)
 
   pub woke_course : SameCourse before after
-  woke_course = record { ended = by moved; released = w.released }
+  woke_course = record { ended = by moved; released = w.released; named = times_still before after same_lines woke_unnamed }
     where
       by : (after.past ≡ before.past) ⊎ GoneOn before.past after.past (call_of before.past client) → has_ended after.past ≡ has_ended before.past
       by (inl same) = ap has_ended same

@@ -1,3 +1,4 @@
+pub mod Naming
 pub mod Playing
 pub mod Stepping
 pub mod Acts

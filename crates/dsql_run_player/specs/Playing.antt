@@ -17,6 +17,7 @@ use Rattle.dsql_run_wires.specs.Seats.{Seat, seat}
 use Rattle.dsql_engine_laws.specs.Leaves.{IsLeave}
 use Rattle.dsql_engine_laws.specs.Turns.{Flying, flies}
 use Rattle.dsql_laws_lines.specs.Running.{AllMade}
+use Rattle.dsql_run_player.specs.Naming.{MakeOnce}
 
 -- A player: the events that happened, newest first, and how many of the oldest were trimmed. What is under way, and
 -- what each client has at hand. It also says whether the script is at its end, which releases the held calls.
@@ -44,14 +45,19 @@ pub record SeatFits (past : List Event) (flights : List Flight) (seats : List Se
 abbrev pub HoldsNone : Playing → Type 0
 HoldsNone p = p.released ≡ true → (client : ℕ) → (seat p.seats client).held ≡ false
 
+-- Holds if calls and kept lines make each label at most once, and no call is held after the script has come to its end.
+pub record LinesFit (p : Playing) : Type 0 where
+  pub held : HoldsNone p
+  pub named : MakeOnce (λ label. 0) p.past p.seats
+
 -- Holds if the player may take a step. Its history is legal, and none of the layer's own driver calls is under
--- way. Clients have permits for exactly what is under way, and at the script's end no call is held.
+-- way. Clients have permits for exactly what is under way. No label is made twice. At the script's end no call is held.
 pub record IsReady (p : Playing) : Type 0 where
   pub legal : Legal p.past
   pub free : p.chore ≡ None
   pub flying : Flying p.past p.flights
   pub seats : (client : ℕ) → SeatFits p.past p.flights p.seats client
-  pub held : HoldsNone p
+  pub lines : LinesFit p
 
 -- Returns a kept line as the script has it.
 abbrev pub line_kept : ℕ → KeptLine → Line

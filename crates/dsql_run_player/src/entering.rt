@@ -4,7 +4,9 @@ ghost use Rattle.dsql_engine_laws.specs.journal.Readers.{is_empty};
 ghost use Rattle.dsql_engine_laws.specs.history.Readers.Calls.{is_busy};
 ghost use Rattle.dsql_engine_laws.specs.history.Readers.Course.{has_ended};
 ghost use Rattle.dsql_engine_laws.specs.history.Rules.House.{is_quiet};
-ghost use Rattle.dsql_run_player.specs.Keeping.{ActsUnheard, SameCourse};
+ghost use Rattle.dsql_run_player.specs.Keeping.{ActsUnheard, SameCourse, TakesUp};
+ghost use Rattle.dsql_run_player.specs.Naming.{MakeOnce};
+ghost use Rattle.dsql_engine_laws.specs.follows.Labels.{times_by};
 ghost use Rattle.dsql_engine_laws.specs.follows.Moments.{Moment, met};
 ghost use Rattle.dsql_run_player.specs.Playing.{IsAt, IsAtBut, IsReady, line_kept};
 ghost use Rattle.dsql_run_player.specs.Stepping.{IsEnd, IsEntryOf, IsTold, TakesStep};
@@ -21,9 +23,10 @@ impl Player {
     /// Appends a line to the kept lines of the client.
     pub fn keep(&mut self, client: u8, line: KeptLine) -> Result<(), Halt>
         requires ready { IsReady self.old }
+        requires names { MakeOnce (λ label. times_by label line.op) self.old.past self.old.seats }
         ensures keeps { OnOk result ((m : Moment) → IsAt m self.old → IsAt (met (line_kept client line) m) self.new) }
         ensures past { self.new.past ≡ self.old.past }
-        ensures course { OnOk result (SameCourse self.old self.new) }
+        ensures course { OnOk result (TakesUp (λ label. times_by label line.op) self.old self.new) }
         ensures act { ActsUnheard result self.old self.new }
         ensures trimmed { self.new.trimmed ≡ self.old.trimmed }
     {
@@ -53,12 +56,13 @@ impl Player {
     /// Enters a line of a free client that isn't among its kept lines.
     pub fn enter(&mut self, client: u8, line: KeptLine) -> Result<(), Halt>
         requires ready { IsReady self.old }
+        requires names { MakeOnce (λ label. times_by label line.op) self.old.past self.old.seats }
         requires room { length self.old.past < most_events }
         requires free { is_busy client self.old.past ≡ false }
         ensures enters { OnOk result ((m : Moment) → IsAtBut m client line self.old
             → TakesStep m self.old self.new (IsEntryOf client)) }
         ensures grows { OnOk result (length self.old.past < length self.new.past) }
-        ensures course { OnOk result (SameCourse self.old self.new) }
+        ensures course { OnOk result (TakesUp (λ label. times_by label line.op) self.old self.new) }
         ensures act { ActsUnheard result self.old self.new }
         ensures trimmed { self.new.trimmed ≡ self.old.trimmed }
     {

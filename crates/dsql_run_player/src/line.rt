@@ -2,8 +2,10 @@
 ghost use Rattle.std.specs.Prelude.{◌≡◌, ◌<◌, ◌≤◌, ℕ, Err, None, true, false, is_some, length, OnOk, OnErr};
 ghost use Rattle.dsql_engine_laws.specs.history.Readers.Course.{has_ended};
 ghost use Rattle.dsql_engine_laws.specs.history.Rules.House.{is_quiet};
-ghost use Rattle.dsql_run_player.specs.Keeping.{ActsUnheard, SameCourse};
+ghost use Rattle.dsql_run_player.specs.Keeping.{ActsUnheard, SameCourse, TakesUp};
+ghost use Rattle.dsql_run_player.specs.Naming.{MakeOnce};
 ghost use Rattle.dsql_engine_laws.specs.laws_ends.Over.{IsOver};
+ghost use Rattle.dsql_engine_laws.specs.follows.Labels.{times_in};
 ghost use Rattle.dsql_engine_laws.specs.follows.Moments.{Moment};
 ghost use Rattle.dsql_engine_laws.specs.follows.Sentences.{runs_on};
 ghost use Rattle.dsql_engine_laws.specs.follows.declared.line.Line.TheVariants.{Fault};
@@ -34,11 +36,12 @@ pub fn carry_line<F: Fleet>(
     line: Line,
 ) -> Result<(), Halt>
     requires ready { IsReady player.old }
+    requires names { MakeOnce (λ label. times_in label line) player.old.past player.old.seats }
     requires wires { WiresFit F.Wire.told (is_some (F.told fleet.old)) player.old.past wires.old }
     ensures carries { OnOk result ((m : Moment) → IsAt m player.old → Carries m line player.old player.new) }
     ensures stops { OnErr result ((m : Moment) → IsAt m player.old
         → StopsInLine m line player.old.past player.new.past) }
-    ensures course { OnOk result (SameCourse player.old player.new) }
+    ensures course { OnOk result (TakesUp (λ label. times_in label line) player.old player.new) }
     ensures run { KeepsRunPlanning
         (plans_of line player.old.past) F.Fleet F.Wire.told result fleet.old fleet.new player.old
         player.new wires.old wires.new }
@@ -120,10 +123,11 @@ pub fn carry_end<F: Fleet>(
 /// Makes the own step of a line that runs on, if the line has one.
 fn begin(player: &mut Player, line: Line) -> Result<(), Halt>
     requires ready { IsReady player.old }
+    requires names { MakeOnce (λ label. times_in label line) player.old.past player.old.seats }
     requires room { length player.old.past < most_events }
     requires runs { runs_on line ≡ true }
     ensures begins { OnOk result ((m : Moment) → IsAt m player.old → Begun m line player.old player.new) }
-    ensures course { OnOk result (SameCourse player.old player.new) }
+    ensures course { OnOk result (TakesUp (λ label. times_in label line) player.old player.new) }
     ensures act { ActsUnheard result player.old player.new }
     ensures trimmed { player.new.trimmed ≡ player.old.trimmed }
 {

@@ -1,8 +1,9 @@
-ghost use Rattle.std.specs.Prelude.{◌≡◌, ◌<◌, ◌≤◌, ◌∷◌, [], true, false, length, reverse, OnOk, OnErr};
+ghost use Rattle.std.specs.Prelude.{◌≡◌, ◌<◌, ◌≤◌, ◌∷◌, ℕ, List, [], true, false, length, reverse, OnOk, OnErr};
 ghost use Rattle.dsql_engine_laws.specs.history.declared.event.Event.TheVariants.{Run};
 ghost use Rattle.dsql_engine_laws.specs.history.Legal.{Legal};
 ghost use Rattle.dsql_engine_laws.specs.history.Trimmed.{IsLeftOf};
 ghost use Rattle.dsql_engine_laws.specs.follows.Moments.{Moment, at_end, just_begun};
+ghost use Rattle.dsql_run_player.specs.Naming.{times};
 ghost use Rattle.dsql_run_player.specs.Playing.{IsAt, IsReady};
 ghost use Rattle.dsql_engine_laws.specs.laws_steps.Groups.{most_events};
 
@@ -57,6 +58,7 @@ impl Player {
         ensures ready { IsReady result }
         ensures unreleased { result.released ≡ false }
         ensures kept { result.trimmed ≡ 0 }
+        ensures unnamed { (label : List ℕ) → times label result.past result.seats ≡ 0 }
     {
         let seats = Seats::new(room.alloc());
         Player {

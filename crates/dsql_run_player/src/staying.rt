@@ -19,7 +19,7 @@ ghost use Rattle.dsql_engine_laws.specs.laws_steps.Groups.{after_control, after_
 ghost use Rattle.dsql_engine_laws.specs.Turns.{flies};
 ghost use Rattle.dsql_run_player.specs.Acts.{Hands, SamePermits, begun};
 ghost use Rattle.dsql_run_player.specs.Chores.{IsToMake};
-ghost use Rattle.dsql_run_player.specs.Playing.{HoldsNone, IsAt, IsReady, Playing};
+ghost use Rattle.dsql_run_player.specs.Playing.{IsAt, IsReady, LinesFit, Playing};
 ghost use Rattle.dsql_engine_laws.specs.Chores.{MayBeMade};
 
 /// A player stays ready over a limit or a moment and over the run's end. It also stays ready as a call enters, is
@@ -28,26 +28,26 @@ ghost use Rattle.dsql_engine_laws.specs.Chores.{MayBeMade};
 pub fn a_player_stays_ready()
     ensures control { (before after : Playing) (control : Control) → IsReady before
         → after.past ≡ after_control before.past control → after.flights ≡ before.flights → Legal after.past
-        → after.chore ≡ None → SamePermits before.seats after.seats → HoldsNone after → IsReady after }
+        → after.chore ≡ None → SamePermits before.seats after.seats → LinesFit after → IsReady after }
     ensures ended { (before after : Playing) → IsReady before → after.past ≡ after_end before.past
         → after.flights ≡ before.flights → Legal after.past → after.chore ≡ None
-        → SamePermits before.seats after.seats → HoldsNone after → IsReady after }
+        → SamePermits before.seats after.seats → LinesFit after → IsReady after }
     ensures entered { (before after : Playing) (client : ℕ) (op : Op) (next : Next) → IsReady before
         → after.past ≡ after_enter before.past client op
         → HasGoneOn after.past before.flights after.flights (next_call before.past) next → Legal after.past
-        → after.chore ≡ None → Hands client next before.seats after.seats → HoldsNone after → IsReady after }
+        → after.chore ≡ None → Hands client next before.seats after.seats → LinesFit after → IsReady after }
     ensures answered { (before after : Playing) (me : ℕ) (e : Entry) (next : Next) → IsReady before
         → is_busy me before.past
         ≡ true → e.call_no ≡ call_of before.past me → flies e.call_no e.conn before.flights ≡ true
         → after.past ≡ after_heard before.past e
         → HasGoneOn after.past (without_flight e.call_no before.flights) after.flights e.call_no next
-        → Legal after.past → after.chore ≡ None → Hands me next before.seats after.seats → HoldsNone after
+        → Legal after.past → after.chore ≡ None → Hands me next before.seats after.seats → LinesFit after
         → IsReady after }
     ensures woken { (before after : Playing) (me : ℕ) (next : Next) → IsReady before → is_busy me before.past ≡ true
         → is_in_flight (call_of before.past me) before.flights ≡ false
         → after.past ≡ gone_on (call_of before.past me) before.past
         → HasGoneOn after.past before.flights after.flights (call_of before.past me) next → Legal after.past
-        → after.chore ≡ None → Hands me next before.seats after.seats → HoldsNone after → IsReady after }
+        → after.chore ≡ None → Hands me next before.seats after.seats → LinesFit after → IsReady after }
 {}
 
 /// A player is ready if its run has begun and its clients have nothing at hand. It is at the moment at which

@@ -5,3 +5,4 @@ pub mod Reading
 pub mod WholeLines
 pub mod Coming
 pub mod Heading
+pub mod Learning

@@ -1,4 +1,5 @@
 pub mod Script
+pub mod Naming
 pub mod Stops
 pub mod Reading
 pub mod Plays

@@ -1,5 +1,6 @@
-ghost use Rattle.std.specs.Prelude.{◌≡◌, ℕ, List, Option};
+ghost use Rattle.std.specs.Prelude.{◌≡◌, ℕ, List, Option, IfOk};
 ghost use Rattle.dsql_driver_stream.specs.Faults.{CountsFaults};
+ghost use Rattle.dsql_script_source.specs.Naming.{LearnsLabel};
 ghost use Rattle.dsql_script_source.specs.Reading.{HasRead, ReadsHead, IsHeadRead};
 ghost use Rattle.dsql_script_source.specs.Script.{nothing};
 ghost use Rattle.dsql_script_source.specs.Stops.{is_read_fault};
@@ -27,6 +28,7 @@ pub fn read_head<S: Source, F: Fleet>(
         (F.ability fleet.old) (F.ability fleet.new) }
     ensures first { IsHeadRead result script.new.reader }
     ensures faults { CountsFaults (is_read_fault result) (S.faults input.old) (S.faults input.new) }
+    ensures named { IfOk result (λ line. LearnsLabel line script.old.reader script.new.reader) }
     ensures unasked { F.told fleet.new ≡ F.told fleet.old }
 {
     while let Some(line) = script.next(alloc, input)? {

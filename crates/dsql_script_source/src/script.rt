@@ -1,9 +1,10 @@
 ghost use Rattle.std.specs.Prelude.{◌≡◌, ◌+◌, ◌≤◌, ℕ, List, Option, true, false, [], None, IfOk, IfErr, IfSome, is_some, length};
 ghost use Rattle.dsql_driver_stream.specs.Faults.{CountsFaults};
 ghost use Rattle.dsql_driver_stream.specs.Lines.{ahead, SawTheEnd};
-ghost use Rattle.dsql_script_reader.specs.ScriptHead.{unread, after};
+ghost use Rattle.dsql_script_reader.specs.ScriptHead.{unread, after, labels_after};
 ghost use Rattle.dsql_script_reader.specs.ScriptLines.{most_lines, read_of};
 ghost use Rattle.dsql_script_reader.specs.declared.script.Head.{Head};
+ghost use Rattle.dsql_script_source.specs.Naming.{LearnsLabel};
 ghost use Rattle.dsql_script_source.specs.Position.{position};
 ghost use Rattle.dsql_script_source.specs.Reading.{HasRead, ReadTo, IsBodyLine, ends_head, NoLine, to_come, ReadsOn, TakesLine, DropsUnfinished, StopsReading, IsRefusal, came};
 ghost use Rattle.dsql_script_source.specs.Script.{Said, nothing};
@@ -74,6 +75,9 @@ impl ScriptReader {
         ensures few { IfOk result (λ line. IfSome line (λ _. self.new.reader.lines ≤ most_lines)) }
         ensures readable { IfErr result IsReadStop }
         ensures stays { NoLine result self.old.reader self.new.reader }
+        ensures named { IfOk result (λ line. LearnsLabel line self.old.reader self.new.reader) }
+        ensures labels { IfOk result (λ line. IfSome line (λ says. self.new.reader.labels
+            ≡ labels_after self.old.reader.labels says)) }
         ensures faults { CountsFaults (is_read_fault result) (S.faults input.old) (S.faults input.new) }
     {
         take_line(
@@ -116,6 +120,7 @@ fn take_line<S: Source>(
     ensures placed { IfOk result (λ one. IfSome one (λ says. reader.new ≡ after reader.old says)) }
     ensures is { IfOk result (λ one. IfSome one (λ says. read_of reader.old line.new.items ≡ Ok says)) }
     ensures stays { NoLine result reader.old reader.new }
+    ensures named { IfOk result (λ line. LearnsLabel line reader.old reader.new) }
     ensures few { IfOk result (λ one. IfSome one (λ _. reader.new.lines ≤ most_lines)) }
     ensures faults { CountsFaults (is_read_fault result) (S.faults input.old) (S.faults input.new) }
     ensures telling { is_some (S.left input.new) ≡ is_some (S.left input.old) }

@@ -3,10 +3,10 @@ ghost use Rattle.std.specs.Prelude.{◌≡◌, ◌≤◌, ◌<◌, ◌&&◌, ◌
 ghost use Rattle.dsql_engine_hearing.specs.history.Legal.{Legal};
 ghost use Rattle.dsql_engine_hearing.specs.history.Trimmed.{IsLeftOf};
 ghost use Rattle.dsql_engine_hearing.specs.history.Readers.Course.{has_ended};
+ghost use Rattle.dsql_engine_hearing.specs.history.Readers.Labels.{names_fit};
 ghost use Rattle.dsql_engine_hearing.specs.history.Rules.House.{is_quiet};
 ghost use Rattle.dsql_engine_hearing.specs.history.Readers.Unfinished.{is_unfinished};
 ghost use Rattle.dsql_engine_hearing.specs.desk.Desk.{past, Stands};
-ghost use Rattle.dsql_engine_hearing.specs.desk.Entering.{names_fit};
 ghost use Rattle.dsql_engine_hearing.specs.going.Answers.{why_blocked};
 ghost use Rattle.dsql_engine.specs.Core.{blocked_call, blocked_for, is_parked, unfinished_of};
 ghost use Rattle.dsql_engine.specs.Hearing.{is_on, is_under_way};
@@ -97,7 +97,8 @@ impl Engine {
         self.desk.is_quiet() && !self.desk.ended
     }
 
-    /// Returns whether no call that has entered makes the label that this operation makes.
+    /// Returns whether no call that has entered makes the label that this operation makes. Rows and transactions share
+    /// their labels.
     pub fn names_fit(&self, op: &Op) -> bool
         ensures { result ≡ names_fit self.now.past op.now }
     {

@@ -1,7 +1,8 @@
 //! The steps in which a call enters or an answer is taken in.
-ghost use Rattle.std.specs.Prelude.{◌≡◌, ◌<◌, ◌==◌, cond, false, length, None, IfErr, IfOk, OnErr, OnOk};
+ghost use Rattle.std.specs.Prelude.{◌≡◌, ◌<◌, ◌==◌, cond, true, false, length, None, IfErr, IfOk, OnErr, OnOk};
 ghost use Rattle.dsql_engine_hearing.specs.history.Legal.{Legal};
 ghost use Rattle.dsql_engine_hearing.specs.history.Readers.Calls.{is_busy, next_call};
+ghost use Rattle.dsql_engine_hearing.specs.history.Readers.Labels.{names_fit};
 ghost use Rattle.dsql_engine_hearing.specs.history.Rules.Flights.{without_flight};
 ghost use Rattle.dsql_engine.specs.Hearing.{MayBeHeard};
 ghost use Rattle.dsql_engine_hearing.specs.going.Reaching.{HasGoneOn};
@@ -31,9 +32,11 @@ impl fmt::Debug for HeardBack {
 
 #[tactic(auto)]
 impl Engine {
-    /// Enters a call for a client that has no unfinished call. The call goes on as far as it can by itself.
+    /// Enters a call for a client that has no unfinished call. No call before it may have made the label that it makes.
+    /// The call goes on as far as it can by itself.
     pub fn enter(&mut self, client: u8, op: Op) -> Result<Next, NoRoom>
         requires free { is_busy client self.old.past ≡ false }
+        requires names { names_fit self.old.past op ≡ true }
         requires room { length self.old.past < most_events }
         ensures group { OnOk result (self.new.past ≡ after_enter self.old.past client op) }
         ensures next { IfOk result (λ next. HasGoneOn self.new.past self.old.flights self.new.flights

@@ -8,7 +8,7 @@ use Rattle.dsql_engine_going.proofs.enter.enter_call.Goals as goal
 
 pub note_entry-requires-clause-may : goal.note_entry-requires-clause-may
 note_entry-requires-clause-may c =
-    may_append c.args.desk.now c.args.flights.now c.args.client c.next_call-call.result c.args.op c.next_call-call.ensures c.requires.pays c.requires.may c.requires.free
+    may_append c.args.desk.now c.args.flights.now c.args.client c.next_call-call.result c.args.op c.next_call-call.ensures c.requires.pays c.requires.may c.requires.free c.requires.names
 
 pub go_on-requires-clause-pays : goal.go_on-requires-clause-pays
 go_on-requires-clause-pays c =
@@ -16,7 +16,7 @@ go_on-requires-clause-pays c =
 
 pub go_on-requires-clause-may : goal.go_on-requires-clause-may
 go_on-requires-clause-may c =
-    may_go_on c.args.desk.now c.note_entry.new.desk c.args.flights.now c.args.client c.next_call-call.result c.args.op c.next_call-call.ensures c.requires.pays c.requires.may c.requires.free c.note_entry.ensures
+    may_go_on c.args.desk.now c.note_entry.new.desk c.args.flights.now c.args.client c.next_call-call.result c.args.op c.next_call-call.ensures c.requires.pays c.requires.may c.requires.free c.requires.names c.note_entry.ensures
 
 pub returns-clause-reaches : goal.returns-clause-reaches
 returns-clause-reaches c =

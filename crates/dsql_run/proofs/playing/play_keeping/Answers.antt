@@ -8,6 +8,7 @@ use Rattle.dsql_run_outcome.specs.script_source.Stops.{is_read_fault}
 use Rattle.dsql_run_outcome.specs.Headline.{Ran, seen}
 use Rattle.dsql_run_outcome.specs.Playing.{ScriptPlayed}
 use Rattle.dsql_run_outcome.proofs.Finished.{risen_later, risen_earlier}
+use Rattle.dsql_run.proofs.Labelled.{first_matches}
 use Rattle.dsql_run.proofs.playing.play_keeping.Goals as goal
 
 -- There was no memory with which a run begins.
@@ -25,6 +26,10 @@ pub returns-in_default-new-clause-none : goal.returns-in_default-new-clause-none
 returns-in_default-new-clause-none g c = λ none. record { memory = rw c.not_begun-in_default-new.ensures refl; same = refl }
 
 -- The run began.
+
+pub play_from-stopped-requires-clause-named : goal.play_from-stopped-requires-clause-named
+play_from-stopped-requires-clause-named g c =
+    λ κs within. first_matches c.read_head-first.result c.in-Ok.script.reader c.read_head-first.new.script.reader c.new-player.result c.in-Ok.ensures.reader c.read_head-first.ensures.named c.new-player.ensures.unnamed
 
 pub returns : goal.returns
 returns g c =

@@ -1,4 +1,4 @@
-use Rattle.std.proofs.Common.{◌≡◌, ◌≤◌, ◌∙◌, true, List, refl, ap, sym, subst, arith, length}
+use Rattle.std.proofs.Common.{◌≡◌, ◌≤◌, ◌+◌, ℕ, ◌∙◌, true, List, refl, ap, sym, subst, arith, length}
 use Rattle.std.specs.Prelude.{IfSome, Ok, Err, is_some}
 use Rattle.std.proofs.lemmas.Result.{IfOk-at_ok}
 use Rattle.dsql_run_outcome.specs.history.declared.event.Event.{Event}
@@ -9,6 +9,8 @@ use Rattle.dsql_run_outcome.specs.script_report.Lines.{text_of}
 use Rattle.dsql_run_outcome.specs.script_show.Report.{with_text}
 use Rattle.dsql_run_outcome.specs.follows.Moments.{Moment}
 use Rattle.dsql_run_outcome.specs.run_player.Carried.{Carries, StopsInLine}
+use Rattle.dsql_run_outcome.specs.follows.Labels.{times_in}
+use Rattle.dsql_run_outcome.specs.run_player.Naming.{times}
 use Rattle.dsql_run_outcome.specs.run_player.Planned.{plans_of}
 use Rattle.dsql_run_outcome.specs.run_player.Playing.{IsAt}
 use Rattle.dsql_run_outcome.specs.script_source.Plays.{saying}
@@ -19,6 +21,7 @@ use Rattle.dsql_run_outcome.specs.run_wires.Stopped.{RecordsAtMost}
 use Rattle.dsql_run_outcome.specs.run_wires.Told.{FleetTells}
 use Rattle.dsql_run_outcome.specs.Lent.{lent}
 use Rattle.dsql_run_outcome.proofs.run_wires.Extending.{extends_same, extends_then}
+use Rattle.dsql_run_outcome.specs.Playing.{MatchesLabels}
 use Rattle.dsql_run_outcome.specs.Runs.{IsLinesEnd, ran_out}
 use Rattle.dsql_run_outcome.proofs.Ending.{failed_is}
 use Rattle.dsql_run_outcome.proofs.Lines.{first_cut, first_ends, first_so_far, first_stops, line_ends, line_so_far, play_ends_none, read_ends, script_ends}
@@ -26,6 +29,7 @@ use Rattle.dsql_run_outcome.proofs.Writing.{all_shown, no_text, show_stops, wrot
 use Rattle.dsql_run.proofs.Going.{begins_telling}
 use Rattle.dsql_run.proofs.Trimming.{between_still, so_far_still}
 use Rattle.dsql_run.proofs.Heading.{always_headed, fewer}
+use Rattle.dsql_run.proofs.Labelled.{next_is_new, next_matches}
 use Rattle.dsql_run.proofs.playing.play_lines.Goals as goal
 
 -- The run's first event couldn't be written.
@@ -166,6 +170,7 @@ loop-next-init g c = record {
   body = IfOk-at_ok IsBodyLine c.in_ok-next.was c.requires.first.body;
   headed = IfOk-at_ok (λ line. IfSome line (λ _. c.args.script.now.reader.head ≡ Begun)) c.in_ok-next.was c.requires.first.begun;
   few = IfOk-at_ok (λ line. IfSome line (λ _. c.args.script.now.reader.lines ≤ most_lines)) c.in_ok-next.was c.requires.first.few;
+  named = IfOk-at_ok (λ line. MatchesLabels line c.args.script.now.reader c.args.player.now) c.in_ok-next.was c.requires.named;
   shown = c.in_ok-show_history.ensures.ok;
   trimmed = c.show_history.ensures.trimmed;
   kept = λ keeps. c.requires.whole;
@@ -176,6 +181,10 @@ loop-next-init g c = record {
   ability = refl;
   preferred = refl;
 }
+
+pub play_line-requires-clause-names : goal.play_line-requires-clause-names
+play_line-requires-clause-names g c =
+    λ κs within. rw c.line_as_played.ensures (next_is_new c.loop-next.next c.in-Some.line c.loop-next.script.reader c.loop-next.player c.loop-next.invariant.named c.in-Some.is)
 
 pub trim_shown-requires : goal.trim_shown-requires
 trim_shown-requires g c = omega (arith, c.play_line.ensures.least, c.in_ok-play_line.ensures.writes.shown)
@@ -206,6 +215,9 @@ loop-next-preserved g c =
       body = c.in_ok-next-2.ensures.body begun;
       headed = always_headed c.in_ok-next-2.next c.next.new.self.reader (c.in_ok-next-2.ensures.begun begun);
       few = c.in_ok-next-2.ensures.few;
+      named = next_matches c.loop-next.next c.in_ok-next-2.next c.in-Some.line c.loop-next.script.reader c.next.new.self.reader c.loop-next.player mid new c.loop-next.invariant.named c.in-Some.is c.in_ok-next-2.ensures.named
+          (subst (λ it. (label : List ℕ) → times label mid.past mid.seats ≡ times_in label it + times label c.loop-next.player.past c.loop-next.player.seats) c.line_as_played.ensures (c.in_ok-play_line.ensures.named refl)) same
+          c.trim_shown.ensures.seats;
       shown = c.in_ok-play_line.ensures.writes.shown ∙ ap length (sym same);
       trimmed = omega (arith, c.in_ok-play_line.ensures.writes.shown, ap length same, c.trim_shown.ensures.within);
       kept = λ keeps. c.trim_shown.ensures.kept keeps ∙ (c.play_line.ensures.trimmed ∙ c.loop-next.invariant.kept keeps);

@@ -10,7 +10,7 @@ use Rattle.dsql_run_outcome.specs.run_wires.Extends.{Extends}
 use Rattle.dsql_run_outcome.specs.script_show.Report.{with_text}
 use Rattle.dsql_run_outcome.specs.script_source.Reading.{IsBodyLine}
 use Rattle.dsql_run_outcome.specs.Lent.{lent}
-use Rattle.dsql_run_outcome.specs.Playing.{HasHead}
+use Rattle.dsql_run_outcome.specs.Playing.{HasHead, MatchesLabels}
 use Rattle.dsql_run_outcome.specs.Runs.{Between}
 use Rattle.dsql_run_outcome.proofs.Lines.{LinesSoFar}
 use Rattle.dsql_run.proofs.Heading.{one_if}
@@ -27,6 +27,7 @@ invariant-loop-next g l = record {
   body : IsBodyLine l.next;
   headed : IfSome l.next (λ _. l.script.reader.head ≡ Head.Begun);
   few : IfSome l.next (λ _. l.script.reader.lines ≤ most_lines);
+  named : MatchesLabels l.next l.script.reader l.player;
   shown : l.shown ≡ length l.player.past;
   trimmed : l.player.trimmed ≤ l.shown;
   kept : l.fn.keeps ≡ true → l.player.trimmed ≡ 0;

@@ -13,7 +13,7 @@ returns-clause-summed g c =
       told = c.write_summary-told.result;
       finishes = c.write_summary-told.ensures.finishes;
       ran = summed c.play_keeping-stopped.result.kept stopped c.write_summary-told.result before after c.write_summary-told.ensures.finishes c.play_keeping-stopped.ensures.kept c.write_summary-told.ensures.written
-          c.play_keeping-stopped.ensures.none c.write_summary-told.ensures.stays (λ none. ap g.K.Sink.written (c.write_summary-told.ensures.none none));
+          c.play_keeping-stopped.ensures.none c.write_summary-told.ensures.stays (λ none. (ap g.K.Sink.written (c.write_summary-told.ensures.none none), ap g.K.Sink.faults (c.write_summary-told.ensures.none none)));
       write_fault = λ failed. c.write_summary-told.ensures.caused failed (no_write_fault stopped before after c.play_keeping-stopped.ensures.ran);
       written_well = c.write_summary-told.ensures.faultless;
       tells = c.tell.ensures.told;

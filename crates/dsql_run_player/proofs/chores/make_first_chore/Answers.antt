@@ -1,8 +1,10 @@
-use Rattle.std.proofs.Common.{◌∙◌, List, is_some, sym, ap, subst}
+use Rattle.std.proofs.Common.{◌∙◌, List, is_some, sym, ap, subst, arith}
 use Rattle.std.proofs.lemmas.Result.{err_from_is_err_and}
 use Rattle.dsql_engine_laws.specs.history.declared.event.Event.{Event}
 use Rattle.dsql_engine_laws.specs.history.Readers.Course.{has_ended}
 use Rattle.dsql_run_wires.specs.WiresFit.{WiresFit}
+use Rattle.dsql_engine_laws.specs.follows.Labels.{times_made}
+use Rattle.dsql_run_player.specs.Naming.{times_at_hand}
 use Rattle.dsql_run_player.proofs.Entered.{fails_at}
 use Rattle.dsql_run_player.proofs.Taken.{at_err, first_course, first_makes, first_run, first_stops, none_run}
 use Rattle.dsql_run_player.proofs.chores.make_first_chore.Goals as goal
@@ -31,7 +33,16 @@ pub returns-in-None-clause-makes : goal.returns-in-None-clause-makes
 returns-in-None-clause-makes g c = c.in-None.ensures.finds
 
 pub returns-in-None-clause-course : goal.returns-in-None-clause-course
-returns-in-None-clause-course g c = record { ended = ap has_ended c.first_chore.ensures.same.past; released = c.first_chore.ensures.same.released }
+returns-in-None-clause-course g c =
+    let same = c.first_chore.ensures.same in
+    record {
+      ended = ap has_ended same.past;
+      released = same.released;
+      named = λ label.
+          let past = ap (times_made label) same.past in
+          let hand = ap (times_at_hand label) same.seats in
+          omega (arith, past, hand);
+    }
 
 pub returns-in-None-clause-run : goal.returns-in-None-clause-run
 returns-in-None-clause-run g c =

@@ -1,9 +1,11 @@
 use Rattle.std.proofs.Common.{◌≡◌, refl, true}
 use Rattle.std.proofs.lemmas.Result.{err_from_is_err_and, on_ok_weaker, on_err_weaker}
+use Rattle.dsql_engine_laws.specs.follows.Labels.{times_in}
 use Rattle.dsql_engine_laws.specs.follows.Sentences.{runs_on}
 use Rattle.dsql_run_player.proofs.Fitting.{fits_unheard, untelling}
 use Rattle.dsql_run_player.proofs.Keeping.{run_after, run_of_wires, run_stays}
 use Rattle.dsql_run_player.proofs.Lines.{begun_done, begun_stops, stops_at_once}
+use Rattle.dsql_run_player.proofs.Ran.{takes_up_then}
 use Rattle.dsql_run_player.proofs.Singles.{started}
 use Rattle.dsql_run_player.proofs.Stepped.{not_full, plans_none, run_unheard, runs_then}
 use Rattle.dsql_run_player.proofs.line.carry_line.Goals as goal
@@ -121,3 +123,21 @@ returns-in_ok-begin-in_default-clause-run g c =
 
 pub returns-in-Fault : goal.returns-in-Fault
 returns-in-Fault g c = rw c.in-Fault.is c.carry_fault.ensures
+
+pub admit-requires-clause-names : goal.admit-requires-clause-names
+admit-requires-clause-names g c = rw c.in-Start.is at c.requires.names
+
+pub returns-in_ok-admit-in-Start-clause-course : goal.returns-in_ok-admit-in-Start-clause-course
+returns-in_ok-admit-in-Start-clause-course g c = rw c.in-Start.is c.in_ok-admit-in-Start.ensures.course
+
+pub returns-in-Step-clause-course : goal.returns-in-Step-clause-course
+returns-in-Step-clause-course g c = rw c.in-Step.is c.step_client.ensures.course
+
+pub returns-in-StepHouse-clause-course : goal.returns-in-StepHouse-clause-course
+returns-in-StepHouse-clause-course g c = rw c.in-StepHouse.is c.step_house.ensures.course
+
+pub returns-in_ok-begin-in_default-clause-course : goal.returns-in_ok-begin-in_default-clause-course
+returns-in_ok-begin-in_default-clause-course g c =
+    on_ok_weaker c.run_on.result
+    (λ same. takes_up_then (λ label. times_in label c.args.line) c.args.player.now c.begin.new.player c.run_on.new.player c.in_ok-begin-in_default.ensures.course same)
+    c.run_on.ensures.course

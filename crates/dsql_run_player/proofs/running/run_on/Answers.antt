@@ -13,7 +13,7 @@ loop-init g c =
     record {
       ready = c.requires.ready;
       runs = λ m at. runs_none m p at;
-      course = record { ended = refl; released = refl };
+      course = record { ended = refl; released = refl; named = λ label. omega arith };
       told = tells_none g.F.Wire.Wire.told (g.F.Fleet.told c.args.fleet.now) p.past p.past c.args.wires.now c.args.wires.now (λ made. refl) (λ made its. its);
       wires = c.requires.wires;
       able = able_same g.F.Fleet c.args.fleet.now;

@@ -13,5 +13,6 @@ invariant-loop-line g l = record {
   head : (before : Option (List ℕ)) → HasRead before l.initial.script (g.S.Source.left l.initial.input) nothing
       → HeadSoFar before l.script (g.S.Source.left l.input) (g.F.Fleet.preferred l.initial.fleet) (g.F.Fleet.preferred l.fleet) (g.F.Fleet.ability l.initial.fleet) (g.F.Fleet.ability l.fleet);
   faultless : g.S.Source.faults l.input ≡ g.S.Source.faults l.initial.input;
+  labels : l.script.reader.labels ≡ l.initial.script.reader.labels;
   unasked : g.F.Fleet.told l.fleet ≡ g.F.Fleet.told l.initial.fleet;
 }

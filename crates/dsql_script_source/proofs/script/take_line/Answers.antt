@@ -3,6 +3,7 @@ use Rattle.std.specs.Prelude.{Err}
 use Rattle.dsql_driver_stream.specs.Lines.{ahead, HandsOut}
 use Rattle.dsql_script_reader.specs.ScriptHead.{after}
 use Rattle.dsql_script_source.proofs.Errors.{err_is}
+use Rattle.dsql_script_source.proofs.Learning.{learns}
 use Rattle.dsql_script_source.proofs.Reading.{reads_on, stops_reading}
 use Rattle.dsql_script_source.proofs.script.take_line.Goals as goal
 
@@ -25,3 +26,6 @@ returns-then-branch-clause-read g c =
     rw counted
     (reads_on c.args.reader.now c.in_ok-next_line.field-0 (ahead c.args.lines.now (g.S.Source.left c.args.input.now)) (ahead c.next_line.new.self (g.S.Source.left c.next_line.new.source))
     c.deref.result.now c.in_ok-read_line.field-0 there out c.in_ok-read_line.ensures.ok)
+
+pub returns-then-branch-clause-named : goal.returns-then-branch-clause-named
+returns-then-branch-clause-named g c = rw c.in_ok-read_line.ensures.counted (learns c.args.reader.now c.deref.result.now c.in_ok-read_line.field-0 c.in_ok-read_line.ensures.ok)

@@ -1,8 +1,8 @@
-use Rattle.std.proofs.Common.{ℕ, ◌==◌, ap}
+use Rattle.std.proofs.Common.{Bool, not, inl, inr, ap}
 use Rattle.dsql_engine_desk.proofs.desk.Desk.names_fit.Goals as goal
 
 pub returns-in-Query : goal.returns-in-Query
-returns-in-Query c = rw c.in-Query.is (ap (λ (n : ℕ). n == 0) c.rows_maker.ensures)
-
-pub returns-in-Begin : goal.returns-in-Begin
-returns-in-Begin c = rw c.in-Begin.is (ap (λ (n : ℕ). n == 0) c.tx_maker.ensures)
+returns-in-Query c = elim c.in-Query.is [
+  | inl query ↦ rw query.3 (ap (λ (b : Bool). not b) c.is_made.ensures)
+  | inr begin ↦ rw begin.2 (ap (λ (b : Bool). not b) c.is_made.ensures)
+]

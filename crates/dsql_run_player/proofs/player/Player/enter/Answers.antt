@@ -1,17 +1,25 @@
-use Rattle.std.proofs.Common.{◌≡◌, ◌<◌, ◌∙◌, Bool, false, not, ◌&&◌, length, Option, sym, subst, ap, rules}
+use Rattle.std.proofs.Common.{◌≡◌, ◌<◌, ◌∙◌, arith, Bool, true, false, not, ◌&&◌, length, Option, sym, subst, ap, rules}
 use Rattle.std.proofs.lemmas.Result.{err_from_is_err_and}
 use Rattle.dsql_engine_laws.specs.journal.declared.entry.Permit.{Permit}
 use Rattle.dsql_engine_laws.specs.history.Readers.Calls.{is_busy}
+use Rattle.dsql_engine_laws.specs.history.Readers.Labels.{names_fit}
 use Rattle.dsql_engine.specs.Core.{Core}
 use Rattle.dsql_engine_laws.specs.laws_steps.Groups.{most_events}
 use Rattle.dsql_run_player.specs.Playing.{Playing}
 use Rattle.dsql_run_player.specs.Stepping.{leave_of}
 use Rattle.dsql_run_player.proofs.Entered.{HasEntered, SeatsCall, entry_acts, entry_course, entry_is_step, entry_longer, enters_by, failed, held_nowhere, held_where, seats_call, seen}
+use Rattle.dsql_run_player.proofs.Named.{fits_once}
 use Rattle.dsql_run_player.proofs.player.Player.enter.Goals as goal
 use Rattle.dsql_run_player.proofs.player.Player.enter.Goals.{then-not-self, else-not-self}
 
 pub enter-requires-clause-free : goal.enter-requires-clause-free
 enter-requires-clause-free c = subst (λ (p : Playing). is_busy c.args.client p.past ≡ false) (sym c.self.view_is) c.requires.free
+
+pub enter-requires-clause-names : goal.enter-requires-clause-names
+enter-requires-clause-names c =
+    let fits : names_fit c.args.self.now.past c.args.line.op ≡ true =
+    fits_once c.args.line.op c.args.self.now.past (λ label. let once = c.requires.names label in omega (arith, once)) in
+    subst (λ (p : Playing). names_fit p.past c.args.line.op ≡ true) (sym c.self.view_is) fits
 
 pub enter-requires-clause-room : goal.enter-requires-clause-room
 enter-requires-clause-room c = subst (λ (p : Playing). length p.past < most_events) (sym c.self.view_is) c.requires.room
@@ -48,7 +56,7 @@ returns c =
     let old = c.args.self.now in
     let new = seen c.enter.new.self c.hold.new.self released in
     let h : HasEntered client line next old new =
-    enters_by client line next c.self.inside.engine c.enter.new.self c.self.inside.seats c.hold.new.self released old c.self.view_is c.requires.ready c.requires.free c.in_ok-next.ensures.group
+    enters_by client line next c.self.inside.engine c.enter.new.self c.self.inside.seats c.hold.new.self released old c.self.view_is c.requires.ready c.requires.free c.requires.names c.in_ok-next.ensures.group
     c.in_ok-next.ensures.next c.enter.ensures.chore c.enter.ensures.legal seated in
     record {
       enters = entry_is_step client line next old new h;
