@@ -12,7 +12,7 @@ use Rattle.dsql_script_generator.specs.declared.words.Command.{Command}
 use Rattle.dsql_script_generator.specs.declared.words.Command.TheVariants.{Play, Summarize, Generate}
 use Rattle.dsql_run_outcome.specs.Headline.{NotBegun, PlaysWholeAs, Ran, Seen, SeenNotes}
 use Rattle.dsql_run_outcome.specs.Notes.{Tells}
-use Rattle.dsql_run_outcome.specs.Runs.{Finishes, is_write_fault, no_write_failed}
+use Rattle.dsql_run_outcome.specs.Runs.{Finishes, is_write_fault}
 
 -- Returns the summary of a run of these lines with this history.
 abbrev pub summary : List Line → List Event → List ℕ
@@ -64,7 +64,7 @@ pub record GeneratesAndTells (lines : ℕ) (before after : SeenOutput) (notes_be
   pub front : ShowsFront before.written (generated lines) after.written
   pub kinds : (told ≡ Ok tt) ⊎ ((told ≡ Err Write) ⊎ (told ≡ Err Memory))
   pub write_fault : told ≡ Err Write → HasRisen before.faults after.faults
-  pub written_well : no_write_failed told ≡ true → after.faults ≡ before.faults
+  pub written_well : is_write_fault told ≡ false → after.faults ≡ before.faults
   pub tells : Tells told
       (has_risen notes_before.faults notes_after.faults) notes_before.written notes_after.written status
 
