@@ -26,4 +26,26 @@ impl Engine {
         self.chore = Some(conn);
         Ok(Next::Send(leave))
     }
+
+    /// Puts off the layer's own driver call: it is no longer recorded as under way. It stays due until its answer is
+    /// heard, and `take_up_chore` records it again before that.
+    pub fn put_off_chore(&mut self)
+        ensures chore { self.new.chore ≡ None }
+        ensures past { self.new.past ≡ self.old.past }
+        ensures flights { self.new.flights ≡ self.old.flights }
+        ensures trimmed { self.new.trimmed ≡ self.old.trimmed }
+    {
+        self.chore = None;
+    }
+
+    /// Records the layer's own driver call on this connection as under way.
+    pub fn take_up_chore(&mut self, conn: u32)
+        requires free { self.old.chore ≡ None }
+        ensures chore { self.new.chore ≡ Some conn }
+        ensures past { self.new.past ≡ self.old.past }
+        ensures flights { self.new.flights ≡ self.old.flights }
+        ensures trimmed { self.new.trimmed ≡ self.old.trimmed }
+    {
+        self.chore = Some(conn);
+    }
 }
