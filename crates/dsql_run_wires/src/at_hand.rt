@@ -1,5 +1,5 @@
 //! What one client has at hand.
-ghost use Rattle.std.specs.Prelude.{◌≡◌, ◌∷◌, ◌++◌, [], None, drop, is_some, slice_get, OnOk, OnErr};
+ghost use Rattle.std.specs.Prelude.{◌≡◌, ◌∷◌, ◌++◌, [], None, drop, is_some, slice_get, Some, IfSome, OnOk, OnErr};
 ghost use Rattle.dsql_run_wires.specs.Seats.{empty_seat};
 
 use crate::seats::KeptLine;
@@ -67,6 +67,14 @@ impl AtHand {
         ensures after { self.new ≡ record self.old { permit = None } }
     {
         self.leave.take()
+    }
+
+    /// Returns the permit, if there is one. It stays at hand.
+    pub(crate) fn leave(&self) -> Option<&Leave>
+        ensures some { IfSome result (λ leave. self.now.permit ≡ Some leave.now) }
+        ensures none { result ≡ None → self.now.permit ≡ None }
+    {
+        self.leave.as_ref()
     }
 
     /// Sets whether the client's call is held.

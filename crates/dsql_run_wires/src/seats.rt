@@ -1,5 +1,5 @@
 //! What each client has at hand, by client number.
-ghost use Rattle.std.specs.Prelude.{◌≡◌, ◌≢◌, ◌<◌, ◌≤◌, ◌∷◌, ◌++◌, ℕ, [], None, drop, false, is_some, length, map, slice_get, OnOk, OnErr};
+ghost use Rattle.std.specs.Prelude.{◌≡◌, ◌≢◌, ◌<◌, ◌≤◌, ◌∷◌, ◌++◌, ℕ, [], None, drop, false, is_some, length, map, slice_get, Some, IfSome, OnOk, OnErr};
 ghost use Rattle.dsql_run_wires.specs.Seats.{empty_seat, seat, released};
 
 use crate::at_hand::AtHand;
@@ -99,6 +99,14 @@ impl Seats {
         ensures count { length self.new ≡ length self.old }
     {
         self.seats.get_mut(client as usize)?.take_leave()
+    }
+
+    /// Returns the client's permit, if it has one. The client keeps it.
+    pub fn leave(&self, client: u8) -> Option<&Leave>
+        ensures some { IfSome result (λ leave. (seat self.now client).permit ≡ Some leave.now) }
+        ensures none { result ≡ None → (seat self.now client).permit ≡ None }
+    {
+        self.seats.get(client as usize)?.leave()
     }
 
     /// Sets whether the client's call is held.
