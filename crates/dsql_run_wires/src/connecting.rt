@@ -40,8 +40,9 @@ pub fn connect_wire<F: Fleet>(
     Ok(heard)
 }
 
-/// Asks the fleet for a connection, by a permit that may open one.
-fn open_wire<F: Fleet>(
+/// Asks the fleet for a connection, by a permit that may open one. Returns the new wire, unless the driver refuses. The
+/// fleet is asked once, or not at all if there is no memory before.
+pub fn open_wire<F: Fleet>(
     alloc: Global,
     fleet: &mut F,
     permit: Permit,

@@ -12,10 +12,11 @@ mod seats;
 pub mod stopping;
 mod wires;
 
-pub use connecting::connect_wire;
+pub use connecting::{connect_wire, open_wire};
 pub use dsql_engine_exchanged::Leave;
 pub use dsql_history::Op;
+pub use dsql_wire::{OpenedThin, ThinWire};
 pub use planning::plan;
-pub use retiring::{retire, retire_all};
+pub use retiring::{retire, retire_all, retire_wire};
 pub use seats::{KeptLine, Seats};
-pub use wires::Wires;
+pub use wires::{Wires, perform_on};

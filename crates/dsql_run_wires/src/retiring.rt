@@ -20,7 +20,7 @@ pub fn retire<F: Fleet>(wires: &mut Wires<F::Wire>, fleet: &mut F, conn: u32)
     ensures exact { RecordsJournal F.Wire.told (slot wires.old conn) }
     ensures able { SameAbility F.Fleet fleet.old fleet.new }
 {
-    give_back(wires.take(conn), conn, fleet);
+    retire_wire(wires.take(conn), conn, fleet);
 }
 
 /// Gives every wire that is left back to the fleet, the largest number first. If none is left, the fleet
@@ -47,18 +47,19 @@ fn retire_slot<F: Fleet>(slot: Option<ThinWire<F::Wire>>, number: u32, fleet: &m
     ensures able { SameAbility F.Fleet fleet.old fleet.new }
 {
     match slot {
-        Some(wire) => give_back(wire, number, fleet),
+        Some(wire) => retire_wire(wire, number, fleet),
         None => {}
     }
 }
 
-/// Gives a wire back under this number.
-fn give_back<F: Fleet>(wire: ThinWire<F::Wire>, number: u32, fleet: &mut F)
+/// Gives a wire that is out of its slot back to the fleet, under the number of this connection. If the wire keeps a
+/// record, the record is exactly its journal.
+pub fn retire_wire<F: Fleet>(wire: ThinWire<F::Wire>, conn: u32, fleet: &mut F)
     ensures retired { F.told fleet.new
-        ≡ retired_after number (F.Wire.told wire.wire) (F.told fleet.old) }
+        ≡ retired_after conn (F.Wire.told wire.wire) (F.told fleet.old) }
     ensures exact { IfSome (F.Wire.told wire.wire) (TellsOf wire.conn wire.journal) }
     ensures able { SameAbility F.Fleet fleet.old fleet.new }
 {
     let RetiredThin { number: _, wire } = wire.retire();
-    fleet.retire(number, wire);
+    fleet.retire(conn, wire);
 }

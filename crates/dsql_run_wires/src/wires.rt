@@ -51,7 +51,7 @@ impl<W: Wire> Wires<W> {
     }
 
     /// Makes an empty slot for this connection if it has none.
-    pub(crate) fn make_room(&mut self, number: u32) -> Result<(), AllocError>
+    pub fn make_room(&mut self, number: u32) -> Result<(), AllocError>
         ensures room { OnOk result (number < length self.new) }
         ensures same { (c : ℕ) → slot self.new c ≡ slot self.old c }
     {
@@ -62,8 +62,8 @@ impl<W: Wire> Wires<W> {
         Ok(())
     }
 
-    /// Puts the wire of this connection into its slot.
-    pub(crate) fn put(&mut self, number: u32, wire: ThinWire<W>)
+    /// Puts the wire of this connection into its slot, which is empty.
+    pub fn put(&mut self, number: u32, wire: ThinWire<W>)
         requires room { number < length self.old }
         requires empty { slot self.old number ≡ None }
         ensures { self.new ≡ slice_set self.old number (Some wire) }
@@ -75,7 +75,7 @@ impl<W: Wire> Wires<W> {
     }
 
     /// Puts the wire of this connection into its slot, if there is one.
-    pub(crate) fn put_any(&mut self, number: u32, wire: Option<ThinWire<W>>)
+    pub fn put_any(&mut self, number: u32, wire: Option<ThinWire<W>>)
         requires room { number < length self.old }
         requires empty { slot self.old number ≡ None }
         ensures here { slot self.new number ≡ wire }
@@ -87,8 +87,8 @@ impl<W: Wire> Wires<W> {
         }
     }
 
-    /// Takes the wire of this connection out of its slot.
-    pub(crate) fn take(&mut self, number: u32) -> ThinWire<W>
+    /// Takes the wire of this connection out of its slot, which is empty from then on.
+    pub fn take(&mut self, number: u32) -> ThinWire<W>
         requires { IsSome (slot self.old number) }
         ensures wire { slot self.old number ≡ Some result }
         ensures after { self.new ≡ slice_set self.old number None }
@@ -96,8 +96,8 @@ impl<W: Wire> Wires<W> {
         self.slots[number as usize].take().unwrap()
     }
 
-    /// Is true if this connection has a wire.
-    pub(crate) fn has(&self, number: u32) -> bool
+    /// Is true if there is a wire in the slot of this connection.
+    pub fn has(&self, number: u32) -> bool
         ensures { result ≡ is_some (slot self.now number) }
     {
         match self.slots.get(number as usize) {
@@ -148,8 +148,9 @@ impl<W: Wire> Wires<W> {
     }
 }
 
-/// Makes one driver call on a wire. The wire's journal must let the call be sent.
-fn perform_on<W: Wire>(wire: &mut ThinWire<W>, permit: Permit) -> Result<Heard, Memory>
+/// Makes one driver call on a wire, which may be out of its slot. The wire's journal must let the call be sent. The
+/// driver is asked once. Only if the wire's judge has no room for the answer, and finds no memory for it, isn't it asked.
+pub fn perform_on<W: Wire>(wire: &mut ThinWire<W>, permit: Permit) -> Result<Heard, Memory>
     requires { MayBeSent wire.old.conn wire.old.journal permit }
     ensures entry { IfOk result (λ heard. heard ≡ answered permit heard.answer) }
     ensures fits { IfOk result (λ heard. fits_at_its_place wire.old.journal heard ≡ true) }
