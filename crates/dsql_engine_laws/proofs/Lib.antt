@@ -21,3 +21,5 @@ pub mod Itself
 pub mod Tidied
 pub mod Made
 pub mod Placed
+pub mod Unmoved
+pub mod StillDue

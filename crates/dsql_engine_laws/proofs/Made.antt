@@ -221,7 +221,7 @@ chore_welcome H c p a it fits =
     let welcome : IsWelcome H e = record { sets = it.sets a; line = it.line a; carries = refl; fits = subst (λ d. fits_at_its_place (journal H d) e ≡ true) (sym it.conn) there } in
     subst (λ (x : Entry). IsWelcome H x) (sym same) welcome
 
-no_moves : (ms : List Move) → is_empty ms ≡ true → ms ≡ []
+pub no_moves : (ms : List Move) → is_empty ms ≡ true → ms ≡ []
 no_moves [] h = refl
 no_moves (m ∷ ms) h = absurd cc
 

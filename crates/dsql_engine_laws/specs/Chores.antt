@@ -1,5 +1,5 @@
 -- The layer's own driver calls, as a program makes them.
-use Rattle.std.specs.Prelude.{◌≡◌, ℕ, true, List, []}
+use Rattle.std.specs.Prelude.{◌≡◌, ◌==◌, ℕ, Bool, true, false, List, []}
 use Rattle.dsql_engine_hearing.specs.driver.declared.answer.DriverAnswer.{DriverAnswer}
 use Rattle.dsql_engine_hearing.specs.driver.Kinds.{is_connect}
 use Rattle.dsql_engine_hearing.specs.journal.declared.entry.Permit.{Permit}
@@ -8,6 +8,7 @@ use Rattle.dsql_tenure.specs.Judged.{answered}
 use Rattle.dsql_wire.specs.Journaled.{MayBeSent}
 use Rattle.dsql_wire.specs.Opening.{opens}
 use Rattle.dsql_engine_hearing.specs.history.declared.event.Event.{Event}
+use Rattle.dsql_engine_hearing.specs.history.declared.event.Event.TheVariants.{Heard}
 use Rattle.dsql_engine_hearing.specs.history.Readers.Journals.{journal}
 use Rattle.dsql_engine_hearing.specs.history.Rules.Sent.{asked_by}
 use Rattle.dsql_engine_hearing.specs.exchanged.Filled.{Carries}
@@ -26,3 +27,8 @@ pub record MayBeMade (past : List Event) (c : ℕ) (permit : Permit) : Type 0 wh
   pub sent : MayBeSent c (journal past c) permit
   pub welcome : (answer : DriverAnswer) → fits_at_its_place (journal past c) (answered permit answer) ≡ true
       → IsWelcome past (answered permit answer)
+
+-- Is true if the event is an answer on connection c.
+abbrev pub hears_on : ℕ → Event → Bool
+hears_on c (Heard e) = e.conn == c
+hears_on c _ = false

@@ -1,5 +1,6 @@
 //! The layer's own driver calls. A history is read newest first.
-ghost use Rattle.std.specs.Prelude.{◌≡◌, ◌≢◌, ℕ, true, false, List, Some, is_some};
+ghost use Rattle.std.specs.Prelude.{◌≡◌, ◌≢◌, ◌++◌, ◌∷◌, [], ℕ, true, false, List, Some, is_some};
+ghost use Rattle.std.specs.List.{list_all};
 ghost use Rattle.dsql_engine_hearing.specs.driver.Kinds.{is_connect, is_shut};
 ghost use Rattle.dsql_engine_hearing.specs.journal.declared.entry.Entry.{Entry};
 ghost use Rattle.dsql_engine_hearing.specs.journal.declared.entry.Owner.{Owner};
@@ -9,12 +10,14 @@ ghost use Rattle.dsql_engine_hearing.specs.pool.declared.conn.Place.TheVariants.
 ghost use Rattle.dsql_engine_hearing.specs.pool.Places.{is_closing, is_lent, is_opening};
 ghost use Rattle.dsql_engine_hearing.specs.history.declared.event.Event.{Event};
 ghost use Rattle.dsql_engine_hearing.specs.history.Readers.Course.{has_ended};
+ghost use Rattle.dsql_engine_hearing.specs.history.Readers.Journals.{journal};
 ghost use Rattle.dsql_engine_hearing.specs.history.Readers.Pool.{place};
 ghost use Rattle.dsql_engine_hearing.specs.history.Rules.Line.{may_come, tidying};
 ghost use Rattle.dsql_engine_hearing.specs.history.Rules.Settled.{owes_nothing};
 ghost use Rattle.dsql_engine_hearing.specs.history.Legal.{Lawful};
 ghost use Rattle.dsql_engine_hearing.specs.going.Permits.{chore_permit};
-ghost use Rattle.dsql_engine_laws.specs.Chores.{MayBeMade};
+ghost use Rattle.dsql_engine_hearing.specs.laws_steps.Groups.{is_later_of};
+ghost use Rattle.dsql_engine_laws.specs.Chores.{MayBeMade, hears_on};
 
 /// Rows or a transaction that no call ended have ended with the run, if a connection is still lent to their
 /// call or to it. So the layer tidies up only after the run has ended.
@@ -47,4 +50,22 @@ pub fn chores_are_told_by_kind()
         → is_shut permit.call ≡ true → is_closing (place history c) ≡ true }
     ensures tidy { (history : List Event) (c : ℕ) (permit : Permit) → chore_permit history c ≡ Some permit
         → is_connect permit.call ≡ false → is_shut permit.call ≡ false → is_lent (place history c) ≡ true }
+{}
+
+/// The layer's own driver call on a connection that isn't lent is a Connect or a Shut. It stays due through each step,
+/// unless the driver answers on that connection. The connection isn't lent after the step either, and its journal is
+/// the same.
+pub fn openings_and_shuttings_stay_due()
+    ensures due { (past events more : List Event) (first : Event) (n c : ℕ) (permit : Permit) → Lawful (events ++ past)
+        → owes_nothing past ≡ true → chore_permit past c ≡ Some permit → is_lent (place past c) ≡ false
+        → events ≡ more ++ first ∷ [] → list_all (is_later_of n) more ≡ true → hears_on c first ≡ false
+        → chore_permit (events ++ past) c ≡ Some permit }
+    ensures unlent { (past events more : List Event) (first : Event) (n c : ℕ) (permit : Permit)
+        → Lawful (events ++ past)
+        → owes_nothing past ≡ true → chore_permit past c ≡ Some permit → is_lent (place past c) ≡ false
+        → events ≡ more ++ first ∷ [] → list_all (is_later_of n) more ≡ true → hears_on c first ≡ false
+        → is_lent (place (events ++ past) c) ≡ false }
+    ensures journal { (past events more : List Event) (first : Event) (n c : ℕ) → events ≡ more ++ first ∷ []
+        → list_all (is_later_of n) more ≡ true → hears_on c first ≡ false
+        → journal (events ++ past) c ≡ journal past c }
 {}
