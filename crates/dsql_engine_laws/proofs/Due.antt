@@ -9,7 +9,7 @@ use Rattle.dsql_engine_hearing.specs.driver.Fits.{is_done}
 use Rattle.dsql_engine_hearing.specs.driver.Kinds.{is_bad, is_begin, is_connect, is_ending, is_shut, is_valid}
 use Rattle.dsql_engine_hearing.specs.driver.declared.caps.Caps.{Caps}
 use Rattle.dsql_engine_hearing.specs.driver.declared.call.DriverCall.{DriverCall}
-use Rattle.dsql_engine_hearing.specs.driver.declared.call.DriverCall.TheVariants.{Connect, Reset, Valid, Ping, Prepare, CloseStmt, Exec, Query, Next, CloseRows, Begin, Commit, Shut}
+use Rattle.dsql_engine_hearing.specs.driver.declared.call.DriverCall.TheVariants.{Connect, Reset, Valid, Prepare, CloseStmt, Exec, Query, Next, CloseRows, Begin, Shut}
 use Rattle.dsql_engine_hearing.specs.driver.declared.call.Input.{Input}
 use Rattle.dsql_engine_hearing.specs.driver.declared.call.Input.TheVariants.{Text, Handle}
 use Rattle.dsql_engine_hearing.specs.driver.declared.call.Level.{Level}
