@@ -1,0 +1,3 @@
+pub mod Finding
+mod Moves
+mod Steps
