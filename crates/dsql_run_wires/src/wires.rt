@@ -53,6 +53,7 @@ impl<W: Wire> Wires<W> {
     /// Makes an empty slot for this connection if it has none.
     pub fn make_room(&mut self, number: u32) -> Result<(), AllocError>
         ensures room { OnOk result (number < length self.new) }
+        ensures many { length self.old ≤ length self.new }
         ensures same { (c : ℕ) → slot self.new c ≡ slot self.old c }
     {
         while self.slots.len() <= number as usize {
@@ -79,6 +80,7 @@ impl<W: Wire> Wires<W> {
         requires room { number < length self.old }
         requires empty { slot self.old number ≡ None }
         ensures here { slot self.new number ≡ wire }
+        ensures many { length self.new ≡ length self.old }
         ensures others { (c : ℕ) → c ≢ number → slot self.new c ≡ slot self.old c }
     {
         match wire {
