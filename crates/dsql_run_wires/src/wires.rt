@@ -151,7 +151,8 @@ impl<W: Wire> Wires<W> {
 }
 
 /// Makes one driver call on a wire, which may be out of its slot. The wire's journal must let the call be sent. The
-/// driver is asked once. Only if the wire's judge has no room for the answer, and finds no memory for it, isn't it asked.
+/// driver is asked once. Only if the wire's judge has no room for the answer, and finds no memory for it, isn't it
+/// asked.
 pub fn perform_on<W: Wire>(wire: &mut ThinWire<W>, permit: Permit) -> Result<Heard, Memory>
     requires { MayBeSent wire.old.conn wire.old.journal permit }
     ensures entry { IfOk result (λ heard. heard ≡ answered permit heard.answer) }
