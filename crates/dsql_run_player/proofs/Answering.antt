@@ -14,6 +14,7 @@ use Rattle.dsql_engine_laws.specs.tenure.Judged.{answered}
 use Rattle.dsql_engine_laws.specs.history.declared.event.Event.TheVariants.{Heard}
 use Rattle.dsql_engine_laws.specs.history.Readers.Calls.{is_busy}
 use Rattle.dsql_engine_laws.specs.history.Readers.Clients.{call_of}
+use Rattle.dsql_engine_laws.specs.history.Readers.Course.{has_ended}
 use Rattle.dsql_engine_laws.specs.history.Readers.Journals.{journal}
 use Rattle.dsql_engine_laws.specs.history.Rules.Flights.{without_flight}
 use Rattle.dsql_engine_laws.specs.history.Legal.{Lawful, Legal}
@@ -24,6 +25,7 @@ use Rattle.dsql_engine_laws.specs.going.Reaching.{HasGoneOn}
 use Rattle.dsql_engine_laws.specs.going.Stepping.{GoesOnOrRests, Rests}
 use Rattle.dsql_engine_laws.specs.going.declared.next.Next.{Next}
 use Rattle.dsql_engine_laws.specs.hearing.Hearing.{IsWelcome}
+use Rattle.dsql_engine_laws.proofs.laws_ends.Steps.{step_ended}
 use Rattle.dsql_engine_laws.proofs.laws_ends.Whose.{idle_none}
 use Rattle.dsql_run_wires.specs.Seats.{seat}
 use Rattle.dsql_engine_laws.specs.laws_steps.Groups.{after_heard}
@@ -33,11 +35,14 @@ use Rattle.dsql_engine_laws.proofs.Leave.{leave_opens_none, leave_sends, leave_w
 use Rattle.dsql_engine_laws.specs.wire.Journaled.{Journaled, MayBeSent}
 use Rattle.dsql_run_wires.specs.WiresFit.{WiresFit, slot}
 use Rattle.dsql_run_wires.proofs.Asking.{wire_sends}
+use Rattle.dsql_run_player.specs.Apart.{AnswersLeave}
+use Rattle.dsql_run_player.specs.Keeping.{SameCourse}
 use Rattle.dsql_run_player.specs.Playing.{FitsCall, IsReady, KeepsLines, Playing}
 use Rattle.dsql_run_player.specs.Stepping.{HearsAnswer}
-use Rattle.dsql_run_player.proofs.Grouped.{Grouped, hears_grouped}
-use Rattle.dsql_run_player.proofs.Named.{lines_fit, names_none}
+use Rattle.dsql_run_player.proofs.Grouped.{Grouped, grows, hears_grouped}
+use Rattle.dsql_run_player.proofs.Named.{lines_fit, names_none, times_still}
 use Rattle.dsql_run_player.proofs.Ready.{answer_ready}
+use Rattle.dsql_run_player.proofs.Whose.{end_step}
 use Rattle.dsql_run_player.specs.Acts.{Hands}
 
 -- Holds if a client that was handed this permit has it for its call, whose driver call is under way.
@@ -116,6 +121,14 @@ may_be_heard core permit e l leave there is fits = record { flight = under_way; 
     under_way : cond (e.call_no == 0) (is_on e.conn core.chore) (flies e.call_no e.conn core.flights) ≡ true
     under_way = ap (λ b. cond b (is_on e.conn core.chore) (flies e.call_no e.conn core.flights)) (other_number e.call_no 0 (λ none. leave.of_a_call (sym number ∙ none))) ∙ flown
 
+-- The core may take in the answer to a driver call for which the client has leave.
+pub leave_heard : (core : Core) (p : Playing) (client : ℕ) (e : Entry) → core.past ≡ p.past → core.flights ≡ p.flights → IsReady p → AnswersLeave p client e → MayBeHeard core e
+leave_heard core p client e past flights ready it =
+    let has : HasLeave p client it.permit = leave_at p client it.permit ready it.leave in
+    may_be_heard core it.permit e (subst Lawful (sym past) ready.legal.lawful) (subst (λ H. IsLeave H it.permit) (sym past) has.leave)
+    (subst (λ fs. flies it.permit.call_no it.permit.conn fs ≡ true) (sym flights) has.there) it.answer
+    (subst (λ H. fits_at_its_place (journal H e.conn) e ≡ true) (sym past) (subst (λ c. fits_at_its_place (journal p.past c) e ≡ true) (sym (entry_conn it.permit e it.answer)) it.fits))
+
 -- What follows from the answer.
 
 pub record Answered (permit : Permit) (e : Entry) (next : Next) (client : ℕ) (before after : Playing) : Type 0 where
@@ -159,4 +172,17 @@ module _ (permit : Permit) (e : Entry) (next : Next) (client : ℕ) (before afte
     heard = a.past;
     went = subst (λ n. HasGoneOn after.past (without_flight n before.flights) after.flights n next) its_number gone;
     lines = a.lines;
+  }
+
+  pub answered_grows : length before.past < length after.past
+  answered_grows = grows before.past after.past (Heard e) e.call_no answered_grouped
+
+  answered_ended : has_ended after.past ≡ has_ended before.past
+  answered_ended = ap has_ended answered_grouped.grown ∙ step_ended before.past answered_grouped.events (Heard e) e.call_no (end_step before.past after.past (Heard e) e.call_no answered_grouped a.legal.lawful)
+
+  pub answered_course : SameCourse before after
+  answered_course = record {
+    ended = answered_ended;
+    released = a.lines.released;
+    named = times_still before after a.lines (names_none before.past after.past (Heard e) e.call_no answered_grouped refl);
   }

@@ -1,6 +1,6 @@
 -- A client's call makes the driver call for which it has a permit. The argument follows what the client has at
 -- hand: its permit is taken, and after the answer it is handed what comes next.
-use Rattle.std.proofs.Common.{◌≡◌, ◌≢◌, ◌<◌, ◌≤◌, ◌⊎◌, inl, inr, ℕ, ◌==◌, true, false, cond, List, length, Option, None, is_some, refl, ap, sym, subst, ◌∙◌, arith}
+use Rattle.std.proofs.Common.{◌≡◌, ◌≢◌, ◌<◌, ◌≤◌, ◌⊎◌, inl, inr, ℕ, true, false, List, length, Option, Some, None, is_some, refl, ap, sym, subst, ◌∙◌, arith}
 use Rattle.std.specs.Prelude.{IsSomeAnd}
 use Rattle.dsql_engine_laws.specs.driver.Kinds.{is_connect, is_shut}
 use Rattle.dsql_engine_laws.specs.driver.Wires.{WireTold}
@@ -10,22 +10,14 @@ use Rattle.dsql_engine_laws.specs.journal.HandlesAndCursors.{fits_at_its_place}
 use Rattle.dsql_engine_laws.specs.tenure.Judged.{answered}
 use Rattle.dsql_engine_laws.specs.history.declared.event.Event.{Event}
 use Rattle.dsql_engine_laws.specs.history.declared.event.Event.TheVariants.{Heard}
-use Rattle.dsql_engine_laws.specs.history.declared.record.Flight.{Flight}
-use Rattle.dsql_engine_laws.specs.history.Readers.Clients.{call_of}
-use Rattle.dsql_engine_laws.specs.history.Readers.Course.{has_ended}
 use Rattle.dsql_engine_laws.specs.history.Readers.Journals.{journal}
-use Rattle.dsql_engine_laws.specs.history.Rules.Flights.{without_flight}
-use Rattle.dsql_engine_laws.specs.history.Legal.{Lawful, Legal}
+use Rattle.dsql_engine_laws.specs.history.Legal.{Lawful}
 use Rattle.dsql_engine_laws.proofs.laws_work.Rows.{same_or_not}
 use Rattle.dsql_engine.specs.Core.{Core}
-use Rattle.dsql_engine.specs.Hearing.{MayBeHeard}
-use Rattle.dsql_engine_laws.specs.going.Stepping.{GoesOnOrRests}
 use Rattle.dsql_engine_laws.specs.going.declared.next.Next.{Next}
-use Rattle.dsql_engine_laws.proofs.laws_ends.Steps.{step_ended}
 use Rattle.dsql_run_wires.specs.Seats.{Seat, seat}
 use Rattle.dsql_engine_laws.specs.laws_steps.Groups.{after_heard}
 use Rattle.dsql_engine_laws.specs.Leaves.{IsLeave}
-use Rattle.dsql_engine_laws.specs.Turns.{flies}
 use Rattle.dsql_engine_laws.proofs.Leave.{leave_opens_none, leave_shuts_none, leave_welcomes}
 use Rattle.dsql_engine_laws.specs.wire.Journaled.{Journaled}
 use Rattle.dsql_run_wires.specs.Asked.{LacksMemory, Performs}
@@ -35,29 +27,20 @@ use Rattle.dsql_run_wires.specs.Told.{fleet_told}
 use Rattle.dsql_run_wires.specs.WiresFit.{KeepsFit, KeepsPlans, WiresFit, slot}
 use Rattle.dsql_run_wires.proofs.Asking.{wire_fits}
 use Rattle.dsql_run_wires.proofs.Stopped.{answer_untaken, call_lacking}
-use Rattle.dsql_run_player.specs.Keeping.{SameCourse}
-use Rattle.dsql_run_player.specs.Acts.{Hands}
+use Rattle.dsql_run_player.specs.Apart.{AnswersLeave}
+use Rattle.dsql_run_player.specs.Acts.{Hands, SamePermits, SamePermitsBut}
 use Rattle.dsql_run_player.specs.Playing.{IsReady, KeepsLines, Playing}
-use Rattle.dsql_run_player.specs.Stepping.{HearsAnswer, leave_of}
+use Rattle.dsql_run_player.specs.Stepping.{leave_of}
 use Rattle.dsql_run_player.proofs.Allowed.{allowed_welcome}
-use Rattle.dsql_run_player.proofs.Answering.{Answered, HasLeave, answered_grouped, answered_hears, answered_ready, may_be_heard}
-use Rattle.dsql_run_player.proofs.Named.{names_none, times_still}
-use Rattle.dsql_run_player.proofs.Grouped.{Grouped, grows}
+use Rattle.dsql_run_player.proofs.Answering.{HasLeave, entry_conn, leave_heard}
+use Rattle.dsql_run_player.proofs.Grouped.{Grouped, hears_grouped}
 use Rattle.dsql_run_player.proofs.Hearing.{answer_fits, answer_plans, answer_told}
-use Rattle.dsql_run_player.proofs.Whose.{end_step}
 
 -- Holds if a client has this permit at present, and nothing else that clients have at hand changed.
 pub record Given (me : ℕ) (permit : Option Permit) (seats now : List Seat) : Type 0 where
   pub here : seat now me ≡ record (seat seats me) { permit = permit }
   pub others : (client : ℕ) → client ≢ me → seat now client ≡ seat seats client
   pub many : length now ≡ length seats
-
-pub given_again : (me : ℕ) (first second : Option Permit) (seats mid now : List Seat) → Given me first seats mid → Given me second mid now → Given me second seats now
-given_again me first second seats mid now a b = record {
-  here = b.here ∙ ap (λ (s : Seat). record s { permit = second }) a.here;
-  others = λ client apart. b.others client apart ∙ a.others client apart;
-  many = b.many ∙ a.many;
-}
 
 pub given_hands : (me : ℕ) (next : Next) (seats now : List Seat) → me < length seats → Given me (leave_of next) seats now → Hands me next seats now
 given_hands me next seats now seated g =
@@ -70,6 +53,16 @@ given_hands me next seats now seated g =
       room = enough;
       many = no_less;
     }
+
+-- What one client is handed leaves the others the permits that they have.
+pub hands_but : (me : ℕ) (next : Next) (seats now : List Seat) → Hands me next seats now → SamePermitsBut me seats now
+hands_but me next seats now h = record { permit = h.others; many = h.many }
+
+pub permits_then : (me : ℕ) (seats mid now : List Seat) → SamePermits seats mid → SamePermitsBut me mid now → SamePermitsBut me seats now
+permits_then me seats mid now same but =
+    let first = same.many in
+    let second = but.many in
+    record { permit = λ client apart. but.permit client apart ∙ same.permit client; many = omega (arith, first, second) }
 
 unchanged : {X : Type 0} (f : Seat → X) (me : ℕ) (permit : Option Permit) (seats now : List Seat) → Given me permit seats now → f (record (seat seats me) { permit = permit }) ≡ f (seat seats me) → (client : ℕ)
     → f (seat now client) ≡ f (seat seats client)
@@ -89,13 +82,15 @@ given_lines me permit before after same g = record {
 pub had_none : (permit : Option Permit) → permit ≡ None → is_some permit ≡ true → ⊥
 had_none permit none some = let clash : false ≡ true = sym (ap is_some none) ∙ some in absurd cc
 
--- The answer of the wire fits, and the core may take it in.
-pub answer_heard : {W : Type 0} (told : W → Option WireTold) (p : Playing) (client : ℕ) (permit : Permit) (e : Entry) (wires : List (Option (Journaled W))) (core : Core) → core.past ≡ p.past → core.flights ≡ p.flights
-    → Lawful p.past → HasLeave p client permit → WiresFit told false p.past wires → e ≡ answered permit e.answer → IsSomeAnd (slot wires permit.conn) (λ w. fits_at_its_place w.journal e ≡ true) → MayBeHeard core e
-answer_heard told p client permit e wires core past flights l has fit is there =
-    may_be_heard core permit e (subst Lawful (sym past) l) (subst (λ (H : List Event). IsLeave H permit) (sym past) has.leave)
-    (subst (λ (fs : List Flight). flies permit.call_no permit.conn fs ≡ true) (sym flights) has.there) is
-    (subst (λ (H : List Event). fits_at_its_place (journal H e.conn) e ≡ true) (sym past) (wire_fits told false p.past permit e wires fit is there))
+-- The answer of the wire may be taken in.
+pub answers_leave : {W : Type 0} (told : W → Option WireTold) (p : Playing) (client : ℕ) (permit : Permit) (e : Entry) (wires : List (Option (Journaled W))) → WiresFit told false p.past wires → (seat p.seats client).permit ≡ Some permit
+    → e ≡ answered permit e.answer → IsSomeAnd (slot wires permit.conn) (λ w. fits_at_its_place w.journal e ≡ true) → AnswersLeave p client e
+answers_leave told p client permit e wires fit has is there = record {
+  permit = permit;
+  leave = has;
+  answer = is;
+  fits = subst (λ (c : ℕ). fits_at_its_place (journal p.past c) e ≡ true) (entry_conn permit e is) (wire_fits told false p.past permit e wires fit is there);
+}
 
 -- The call is due: whatever its answer is, it may come next by every rule.
 call_may_want : (p : Playing) (client : ℕ) (permit : Permit) → IsReady p → HasRoom p.past → HasLeave p client permit → MayCome p.past (WantedMemory permit)
@@ -108,73 +103,37 @@ call_lacks told p client permit wires now ready room has fit lacks =
     call_lacking told false permit p.past wires now fit lacks (leave_opens_none p.past permit ready.legal.lawful has.leave) (call_may_want p client permit ready room has)
 
 -- If the answer isn't taken in, the wires hear at most that answer more.
-pub call_untaken : {W : Type 0} (told : W → Option WireTold) (p : Playing) (client : ℕ) (permit : Permit) (e : Entry) (wires now : List (Option (Journaled W))) → IsReady p → HasRoom p.past → HasLeave p client permit → WiresFit told false p.past wires
-    → Performs told permit e wires now → IsSomeAnd (slot wires permit.conn) (λ w. fits_at_its_place w.journal e ≡ true) → HearsAtMost told p.past p.past wires now
-call_untaken told p client permit e wires now ready room has fit performs there =
+pub call_untaken : {W : Type 0} (told : W → Option WireTold) (p : Playing) (client : ℕ) (permit : Permit) (e : Entry) (wires now : List (Option (Journaled W))) → IsReady p → HasRoom p.past → HasLeave p client permit → AnswersLeave p client e
+    → Performs told permit e wires now → HearsAtMost told p.past p.past wires now
+call_untaken told p client permit e wires now ready room has answers performs =
     let l : Lawful p.past = ready.legal.lawful in
     let core : Core = record { past = p.past; trimmed = p.trimmed; flights = p.flights; chore = p.chore } in
     answer_untaken told permit e p.past wires now performs (leave_opens_none p.past permit l has.leave) (leave_shuts_none p.past permit l has.leave)
-    (room, allowed_welcome p.past e ready.legal (answer_heard told p client permit e wires core refl refl l has fit performs.entry there).welcome)
+    (room, allowed_welcome p.past e ready.legal (leave_heard core p client e refl refl ready answers).welcome)
 
--- Holds if the client's call made the driver call for which it had a permit, and the answer was heard.
-pub record Asks {W : Type 0} (told : W → Option WireTold) (permit : Permit) (e : Entry) (next : Next) (client : ℕ) (before after : Playing) (wires now : List (Option (Journaled W))) : Type 0 where
-  pub ready : IsReady before
-  pub has : HasLeave before client permit
+-- Holds if the client's call made the driver call for which it had a permit, and the answer was taken in.
+pub record Asks {W : Type 0} (told : W → Option WireTold) (permit : Permit) (e : Entry) (before after : List Event) (wires now : List (Option (Journaled W))) : Type 0 where
+  pub lawful : Lawful before
+  pub leave : IsLeave before permit
   pub performs : Performs told permit e wires now
-  pub past : after.past ≡ after_heard before.past e
-  pub went : GoesOnOrRests after.past (without_flight e.call_no before.flights) after.flights e.call_no next
-  pub chore : after.chore ≡ cond (e.call_no == 0) None before.chore
-  pub legal : Legal after.past
-  pub released : after.released ≡ before.released
-  pub given : Given client (leave_of next) before.seats after.seats
+  pub past : after ≡ after_heard before e
+  pub lawful_then : Lawful after
 
-module _ {W : Type 0} (told : W → Option WireTold) (permit : Permit) (e : Entry) (next : Next) (client : ℕ) (before after : Playing) (wires now : List (Option (Journaled W))) (a : Asks told permit e next client before after wires now) where
-  answers : Answered permit e next client before after
-  answers = record {
-    has = a.has;
-    ready = a.ready;
-    entry = a.performs.entry;
-    past = a.past;
-    went = a.went;
-    chore = a.chore;
-    legal = a.legal;
-    hands = given_hands client next before.seats after.seats a.has.room a.given;
-    lines = given_lines client (leave_of next) before after a.released a.given;
-  }
-
-  group : Grouped before.past after.past (Heard e) e.call_no
-  group = answered_grouped permit e next client before after answers
-
-  pub asks_ready : IsReady after
-  asks_ready = answered_ready permit e next client before after answers
-
-  pub asks_hears : HearsAnswer (call_of before.past client) before after
-  asks_hears = answered_hears permit e next client before after answers
-
-  pub asks_grows : length before.past < length after.past
-  asks_grows = grows before.past after.past (Heard e) e.call_no group
-
-  pub asks_ended : has_ended after.past ≡ has_ended before.past
-  asks_ended = ap has_ended group.grown ∙ step_ended before.past group.events (Heard e) e.call_no (end_step before.past after.past (Heard e) e.call_no group a.legal.lawful)
-
-  pub asks_course : SameCourse before after
-  asks_course = record {
-    ended = asks_ended;
-    released = a.released;
-    named = times_still before after answers.lines (names_none before.past after.past (Heard e) e.call_no group refl);
-  }
+module _ {W : Type 0} (told : W → Option WireTold) (permit : Permit) (e : Entry) (before after : List Event) (wires now : List (Option (Journaled W))) (a : Asks told permit e before after wires now) where
+  group : Grouped before after (Heard e) e.call_no
+  group = subst (λ (H : List Event). Grouped before H (Heard e) e.call_no) (sym a.past) (hears_grouped before e (subst Lawful a.past a.lawful_then))
 
   opens_none : is_connect permit.call ≡ false
-  opens_none = leave_opens_none before.past permit a.ready.legal.lawful a.has.leave
+  opens_none = leave_opens_none before permit a.lawful a.leave
 
   shuts_none : is_shut permit.call ≡ false
-  shuts_none = leave_shuts_none before.past permit a.ready.legal.lawful a.has.leave
+  shuts_none = leave_shuts_none before permit a.lawful a.leave
 
-  pub asks_wires : KeepsFit told before.past after.past wires now
-  asks_wires = answer_fits told permit e before.past after.past e.call_no group wires now a.performs opens_none shuts_none
+  pub asks_wires : KeepsFit told before after wires now
+  asks_wires = answer_fits told permit e before after e.call_no group wires now a.performs opens_none shuts_none
 
-  pub asks_plans : KeepsPlans told before.past after.past wires now
-  asks_plans = answer_plans told permit e before.past after.past e.call_no group wires now a.performs
+  pub asks_plans : KeepsPlans told before after wires now
+  asks_plans = answer_plans told permit e before after e.call_no group wires now a.performs
 
-  pub asks_told : (made : List Made) → fleet_told made after.past ≡ fleet_told made before.past
-  asks_told = answer_told permit e before.past after.past e.call_no group a.performs.entry opens_none shuts_none
+  pub asks_told : (made : List Made) → fleet_told made after ≡ fleet_told made before
+  asks_told = answer_told permit e before after e.call_no group a.performs.entry opens_none shuts_none

@@ -103,7 +103,7 @@ module _ (client : ℕ) (line : KeptLine) (next : Next) (before after : Playing)
   pub entry_ended : has_ended after.past ≡ has_ended before.past
   entry_ended = ap has_ended entry_group.grown ∙ step_ended before.past entry_group.events first number (end_step before.past after.past first number entry_group h.legal.lawful)
 
-  entry_hands : Hands client next before.seats after.seats
+  pub entry_hands : Hands client next before.seats after.seats
   entry_hands = record {
     handed = ap (λ (s : Seat). s.permit) h.seated.its;
     others = λ other apart. ap (λ (s : Seat). s.permit) (h.seated.others other apart);
@@ -218,7 +218,7 @@ module _ (before after : Core) (seats : List Seat) (released : Bool) (old : Play
   as_before : KeepsLines old (seen after seats released)
   as_before = lines_stay old (seen after seats released) (ap (λ (p : Playing). p.seats) is) (ap (λ (p : Playing). p.released) is)
 
-  same_leave : SamePermits old.seats seats
+  pub same_leave : SamePermits old.seats seats
   same_leave = permits_stay old.seats seats (ap (λ (p : Playing). p.seats) is)
 
 -- A limit or the present moment is set.

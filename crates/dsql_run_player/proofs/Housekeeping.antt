@@ -9,7 +9,7 @@ use Rattle.dsql_engine_laws.specs.journal.Permits.{entry_of}
 use Rattle.dsql_engine_laws.specs.history.declared.event.Event.{Event}
 use Rattle.dsql_engine_laws.specs.history.declared.event.Event.TheVariants.{Heard}
 use Rattle.dsql_engine_laws.specs.history.declared.record.Flight.{Flight}
-use Rattle.dsql_engine_laws.specs.history.Legal.{Lawful}
+use Rattle.dsql_engine_laws.specs.history.Legal.{Lawful, Legal}
 use Rattle.dsql_engine_laws.specs.history.Readers.Course.{has_ended}
 use Rattle.dsql_engine_laws.specs.history.Readers.Journals.{journal}
 use Rattle.dsql_engine_laws.specs.history.Rules.Flights.{is_in_flight, permitted, without_flight}
@@ -57,34 +57,50 @@ use Rattle.dsql_run_player.specs.Acts.{SamePermits, TakesAnswer}
 
 -- What the call says of its answer.
 
+-- Holds if the layer's own call of this permit is due, and this is its answer, which fits at its place.
+pub record AnswersOwn (past : List Event) (permit : Permit) (e : Entry) : Type 0 where
+  pub legal : Legal past
+  pub leave : chore_permit past permit.conn ≡ Some permit
+  pub answer : e ≡ answered permit e.answer
+  pub fits : fits_at_its_place (journal past e.conn) e ≡ true
+
+module _ (past : List Event) (permit : Permit) (e : Entry) (it : AnswersOwn past permit e) where
+  made : MayBeMade past permit.conn permit
+  made = chore_made past permit.conn permit it.legal.lawful it.legal.settled.nothing_owed it.leave
+
+  own_conn : e.conn ≡ permit.conn
+  own_conn = entry_conn permit e it.answer
+
+  -- The answer is of no client's call.
+  pub own_layer : e.call_no ≡ 0
+  own_layer = entry_number permit e it.answer ∙ made.layer
+
+  own_fits : fits_at_its_place (journal past permit.conn) (answered permit e.answer) ≡ true
+  own_fits = subst (λ (x : Entry). fits_at_its_place (journal past permit.conn) x ≡ true) it.answer (subst (λ (c : ℕ). fits_at_its_place (journal past c) e ≡ true) own_conn it.fits)
+
+  own_welcome : IsWelcome past e
+  own_welcome = subst (λ (x : Entry). IsWelcome past x) (sym it.answer) (made.welcome e.answer own_fits)
+
+  -- The core may take in the answer if it has recorded the call as under way.
+  pub own_heard : (core : Core) → core.past ≡ past → core.chore ≡ Some permit.conn → MayBeHeard core e
+  own_heard core same chore = record { flight = flight; welcome = subst (λ (H : List Event). IsWelcome H e) (sym same) own_welcome }
+    where
+      under_way : is_on e.conn core.chore ≡ true
+      under_way = ap (λ (chore : Option ℕ). is_on e.conn chore) chore ∙ (ap (λ (c : ℕ). permit.conn == c) own_conn ∙ same_itself permit.conn)
+
+      flight : is_under_way core e.call_no e.conn ≡ true
+      flight = ap (λ (n : ℕ). is_under_way core n e.conn) own_layer ∙ under_way
+
 -- The layer's own call that is under way may be made.
 pub made_so : (p : Playing) (permit : Permit) → IsToMake p permit → MayBeMade p.past permit.conn permit
 made_so p permit it = chore_made p.past permit.conn permit it.ready.legal.lawful it.ready.legal.settled.nothing_owed it.leave
 
+pub answers_own : (p : Playing) (e : Entry) → (it : IsAnswered p e) → AnswersOwn p.past it.permit e
+answers_own p e it = record { legal = it.to_make.ready.legal; leave = it.to_make.leave; answer = it.answer; fits = it.fits }
+
 -- The core may take in the answer.
 pub answer_welcome : (p : Playing) (e : Entry) (core : Core) → core.past ≡ p.past → core.chore ≡ p.chore → IsAnswered p e → MayBeHeard core e
-answer_welcome p e core past chore it = record { flight = flight; welcome = subst (λ (H : List Event). IsWelcome H e) (sym past) (subst (λ (x : Entry). IsWelcome p.past x) (sym it.answer) welcome) }
-  where
-    made : MayBeMade p.past it.permit.conn it.permit
-    made = made_so p it.permit it.to_make
-
-    on_it : e.conn ≡ it.permit.conn
-    on_it = entry_conn it.permit e it.answer
-
-    layer : e.call_no ≡ 0
-    layer = entry_number it.permit e it.answer ∙ made.layer
-
-    under_way : is_on e.conn core.chore ≡ true
-    under_way = ap (λ (chore : Option ℕ). is_on e.conn chore) (chore ∙ it.to_make.under_way) ∙ (ap (λ (c : ℕ). it.permit.conn == c) on_it ∙ same_itself it.permit.conn)
-
-    flight : is_under_way core e.call_no e.conn ≡ true
-    flight = ap (λ (n : ℕ). is_under_way core n e.conn) layer ∙ under_way
-
-    fits : fits_at_its_place (journal p.past it.permit.conn) (answered it.permit e.answer) ≡ true
-    fits = subst (λ (x : Entry). fits_at_its_place (journal p.past it.permit.conn) x ≡ true) it.answer (subst (λ (c : ℕ). fits_at_its_place (journal p.past c) e ≡ true) on_it it.fits)
-
-    welcome : IsWelcome p.past (answered it.permit e.answer)
-    welcome = made.welcome e.answer fits
+answer_welcome p e core past chore it = own_heard p.past it.permit e (answers_own p e it) core past (chore ∙ it.to_make.under_way)
 
 -- The layer's own call is due: whatever its answer is, it may come next by every rule.
 pub chore_may_want : (p : Playing) (permit : Permit) → IsToMake p permit → MayCome p.past (WantedMemory permit)
@@ -92,11 +108,9 @@ chore_may_want p permit it = (it.room, λ answer fits. allowed_welcome p.past (a
 
 -- The answer may come next by every rule, whether or not it is taken in.
 pub answer_may_come : (p : Playing) (e : Entry) → IsAnswered p e → MayCome p.past (Untaken e)
-answer_may_come p e it =
-    let core : Core = record { past = p.past; trimmed = p.trimmed; flights = p.flights; chore = p.chore } in
-    (it.to_make.room, allowed_welcome p.past e it.to_make.ready.legal (answer_welcome p e core refl refl it).welcome)
+answer_may_come p e it = (it.to_make.room, allowed_welcome p.past e it.to_make.ready.legal (own_welcome p.past it.permit e (answers_own p e it)))
 
-without_none : (n : ℕ) (flights : List Flight) → is_in_flight n flights ≡ false → without_flight n flights ≡ flights
+pub without_none : (n : ℕ) (flights : List Flight) → is_in_flight n flights ≡ false → without_flight n flights ≡ flights
 without_none n [] h = refl
 without_none n (x ∷ xs) h = let a = neither (x.call == n) (is_in_flight n xs) h in by (x.call == n) a.0 (without_none n xs a.1)
   where
@@ -169,8 +183,8 @@ module _ (permit : Permit) (e : Entry) (before after : Playing) (ready : IsReady
   pub chore_ended : has_ended after.past ≡ has_ended before.past
   chore_ended = ap has_ended chore_group.grown ∙ step_ended before.past chore_group.events (Heard e) 0 (end_step before.past after.past (Heard e) 0 chore_group took.legal.lawful)
 
-  pub chore_taken : chore_due before.past ≡ Some permit.conn → (m : Moment) → IsAt m before → TakesStep m before after (IsChoreOn (chore_due before.past))
-  chore_taken due m at =
+  pub chore_steps : (conn : Option ℕ) → conn ≡ Some e.conn → (m : Moment) → IsAt m before → TakesStep m before after (IsChoreOn conn)
+  chore_steps conn on m at =
       let n : ℕ = e.call_no in
       let s : MakesStep m (Heard e) n after.past = subst (λ (H : List Event). MakesStep m (Heard e) n H) (ap (λ (H : List Event). after_heard H e) at.past ∙ sym took.past) (heard_is_one m e at.rest (subst (λ (H : List Event). RestsAlone H e) (sym at.past) (hears_alone before.past e (subst (λ (H : List Event). Lawful H) took.past took.legal.lawful)))) in
       let none : is_in_flight 0 m.flights ≡ false = ap (λ (flights : List Flight). is_in_flight 0 flights) at.flights ∙ nobody_flies before.past before.flights ready.legal.lawful ready.flying in
@@ -178,5 +192,8 @@ module _ (permit : Permit) (e : Entry) (before after : Playing) (ready : IsReady
       ap (λ (k : ℕ). permitted k (stand after.past k) (without_flight k m.flights)) took.layer
       ∙ (nobody_sends after.past (without_flight 0 m.flights) took.legal.lawful ∙ (without_none 0 m.flights none ∙ (at.flights ∙ sym took.flights))) in
       let far : HasGoneFar after.past after.flights n = subst (λ (k : ℕ). HasGoneFar after.past after.flights k) (sym took.layer) (layer_whole after.past after.flights took.legal.lawful) in
-      step_taken m (Heard e) n before after (IsChoreOn (chore_due before.past)) (has_lines m before at) s refl fly far keeps_lines
-      (record { entry = e; heard = refl; of_the_layer = took.layer; of_nobody = took.layer; on = due ∙ ap Some (sym on_it) })
+      step_taken m (Heard e) n before after (IsChoreOn conn) (has_lines m before at) s refl fly far keeps_lines
+      (record { entry = e; heard = refl; of_the_layer = took.layer; of_nobody = took.layer; on = on })
+
+  pub chore_taken : chore_due before.past ≡ Some permit.conn → (m : Moment) → IsAt m before → TakesStep m before after (IsChoreOn (chore_due before.past))
+  chore_taken due = chore_steps (chore_due before.past) (due ∙ ap Some (sym on_it))

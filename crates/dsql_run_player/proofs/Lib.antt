@@ -26,6 +26,7 @@ pub mod Asked
 pub mod Woke
 pub mod Unstated
 pub mod Taken
+pub mod PutOff
 pub mod Tidied
 pub mod Shut
 pub mod Opened

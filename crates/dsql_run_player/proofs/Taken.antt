@@ -1,6 +1,6 @@
 -- Proves that the core may hear the answer to a driver call of the layer's own. It then finds the first one that is
 -- due.
-use Rattle.std.proofs.Common.{◌≡◌, ℕ, ◌<◌, ◌==◌, Bool, true, false, not, cond, List, [], ◌∷◌, length, Option, Some, None, is_some, refl, sym, ap, subst, ◌∙◌}
+use Rattle.std.proofs.Common.{◌≡◌, ℕ, ◌<◌, ◌==◌, Bool, true, false, cond, List, [], length, Option, Some, None, is_some, refl, sym, ap, subst, ◌∙◌}
 use Rattle.std.specs.Prelude.{Result, Ok, Err, IsErr, is_err, option_map}
 use Rattle.dsql_engine_laws.specs.driver.Wires.{WireTold}
 use Rattle.dsql_engine_laws.specs.driver.declared.wire.Fleet.{Ghosts}
@@ -19,11 +19,11 @@ use Rattle.dsql_engine_laws.specs.going.Stepping.{GoesOnOrRests}
 use Rattle.dsql_engine.specs.Core.{Core}
 use Rattle.dsql_engine.specs.Chores.{IsChore, chore_next}
 use Rattle.dsql_engine.specs.Hearing.{MayBeHeard}
-use Rattle.dsql_engine_laws.proofs.laws.Places.{neither}
 use Rattle.dsql_engine_laws.proofs.Made.{chore_made}
 use Rattle.dsql_run_wires.specs.Seats.{Seat}
 use Rattle.dsql_engine_laws.specs.laws_steps.Groups.{after_heard, most_events}
 use Rattle.dsql_engine_laws.specs.tenure.Judged.{answered}
+use Rattle.dsql_engine_laws.specs.Turns.{Flying}
 use Rattle.dsql_engine_laws.specs.wire.Journaled.{Journaled}
 use Rattle.dsql_run_wires.specs.Stopped.{RecordsAtMost}
 use Rattle.dsql_run_wires.specs.Told.{FleetTells, SameAbility}
@@ -34,9 +34,8 @@ use Rattle.dsql_run_player.specs.Carried.{KeepsRun}
 use Rattle.dsql_run_player.specs.Chores.{FindsChore, IsAnswered, IsToMake, SameButChore}
 use Rattle.dsql_run_player.specs.Playing.{IsReady, Playing}
 use Rattle.dsql_run_player.specs.Stepping.{MakesChore, leave_of}
-use Rattle.dsql_run_player.proofs.Answering.{entry_number}
 use Rattle.dsql_run_player.proofs.Grouped.{Grouped}
-use Rattle.dsql_run_player.proofs.Housekeeping.{answer_welcome, chore_ended, chore_group, chore_longer, chore_names, chore_ready, chore_taken, made_so, rests_so}
+use Rattle.dsql_run_player.proofs.Housekeeping.{AnswersOwn, answer_welcome, answers_own, chore_ended, chore_group, chore_longer, chore_names, chore_ready, chore_taken, own_layer, rests_so, without_none}
 use Rattle.dsql_run_player.proofs.Keeping.{run_goes, run_stops}
 use Rattle.dsql_run_player.proofs.Seating.{nobody_flies}
 use Rattle.dsql_run_player.specs.Keeping.{IsTaken, SameCourse}
@@ -53,24 +52,26 @@ at_err r y is = ap is_err is
 
 -- The answer is taken in.
 
-none_left : (n : ℕ) (flights : List Flight) → is_in_flight n flights ≡ false → without_flight n flights ≡ flights
-none_left n [] h = refl
-none_left n (x ∷ xs) h = let a = neither (x.call == n) (is_in_flight n xs) h in by (x.call == n) a.0 (none_left n xs a.1)
-  where
-    by : (b : Bool) → b ≡ false → without_flight n xs ≡ xs → cond (not b) (x ∷ without_flight n xs) (without_flight n xs) ≡ x ∷ xs
-    by true h rest = absurd cc
-    by false h rest = ap (λ (flights : List Flight). x ∷ flights) rest
-
--- The answer is of no client's call.
-pub of_nobody : (p : Playing) (e : Entry) → IsAnswered p e → e.call_no ≡ 0
-of_nobody p e it = entry_number it.permit e it.answer ∙ (made_so p it.permit it.to_make).layer
-
 -- Taking in the answer to the layer's own driver call changes no flight.
-pub flights_stay : (p : Playing) (e : Entry) (now : List Event) (after : List Flight) (next : Next) → IsAnswered p e → GoesOnOrRests now (without_flight e.call_no p.flights) after e.call_no next → after ≡ p.flights
-flights_stay p e now after next it went =
-    let none : is_in_flight 0 p.flights ≡ false = nobody_flies p.past p.flights it.to_make.ready.legal.lawful it.to_make.ready.flying in
-    rests_so now (without_flight e.call_no p.flights) after e.call_no next (of_nobody p e it) went
-    ∙ (ap (λ (n : ℕ). without_flight n p.flights) (of_nobody p e it) ∙ none_left 0 p.flights none)
+flights_stay : (past now : List Event) (flights after : List Flight) (permit : Permit) (e : Entry) (next : Next) → AnswersOwn past permit e → Flying past flights → GoesOnOrRests now (without_flight e.call_no flights) after e.call_no next → after ≡ flights
+flights_stay past now flights after permit e next it flying went =
+    let layer : e.call_no ≡ 0 = own_layer past permit e it in
+    let none : is_in_flight 0 flights ≡ false = nobody_flies past flights it.legal.lawful flying in
+    rests_so now (without_flight e.call_no flights) after e.call_no next layer went ∙ (ap (λ (n : ℕ). without_flight n flights) layer ∙ without_none 0 flights none)
+
+-- The player takes in the answer to a call that is due, and nothing else changes.
+pub takes_own : (p after : Playing) (own permit : Permit) (e : Entry) (next : Next) → AnswersOwn p.past own e → Flying p.past p.flights → e ≡ answered permit e.answer → after.past ≡ after_heard p.past e
+    → GoesOnOrRests after.past (without_flight e.call_no p.flights) after.flights e.call_no next → after.chore ≡ None → after.seats ≡ p.seats → after.released ≡ p.released → Legal after.past → TakesAnswer permit e p after
+takes_own p after own permit e next it flying heard grown went chore seats released legal = record {
+  heard = heard;
+  layer = own_layer p.past own e it;
+  past = grown;
+  flights = flights_stay p.past after.past p.flights after.flights own e next it flying went;
+  chore = chore;
+  seats = seats;
+  released = released;
+  legal = legal;
+}
 
 -- The player's core may hear the answer.
 pub may_hear : (core : Core) (seats : List Seat) (released : Bool) (p : Playing) (e : Entry) → player_of core seats released ≡ p → IsAnswered p e → MayBeHeard core e
@@ -83,17 +84,10 @@ pub takes_in : (core now : Core) (seats : List Seat) (released : Bool) (p : Play
 takes_in core now seats released p e next permit is it heard grown went chore legal =
     let old : Playing = player_of core seats released in
     let its : IsAnswered old e = subst (λ (v : Playing). IsAnswered v e) (sym is) it in
-    let layer : e.call_no ≡ 0 = of_nobody old e its in
-    subst (λ (v : Playing). TakesAnswer permit e v (player_of now seats released)) is (record {
-      heard = heard;
-      layer = layer;
-      past = grown;
-      flights = flights_stay old e now.past now.flights next its went;
-      chore = chore ∙ ap (λ (n : ℕ). cond (n == 0) None core.chore) layer;
-      seats = refl;
-      released = refl;
-      legal = legal;
-    })
+    let own : AnswersOwn core.past its.permit e = answers_own old e its in
+    let free : now.chore ≡ None = chore ∙ ap (λ (n : ℕ). cond (n == 0) None core.chore) (own_layer core.past its.permit e own) in
+    subst (λ (v : Playing). TakesAnswer permit e v (player_of now seats released)) is
+    (takes_own old (player_of now seats released) its.permit permit e next own its.to_make.ready.flying heard grown went free refl refl legal)
 
 module _ (permit : Permit) (e : Entry) (p after : Playing) (it : IsToMake p permit) (took : TakesAnswer permit e p after) where
   took_free : TakesAnswer permit e (record p { chore = None }) after

@@ -33,7 +33,7 @@ use Rattle.dsql_run_wires.specs.Seats.{Seat, seat}
 use Rattle.dsql_engine_laws.specs.laws_steps.Steps.{goes_by_itself}
 use Rattle.dsql_engine_laws.specs.laws_steps.Groups.{gone_on}
 use Rattle.dsql_run_player.specs.Keeping.{SameCourse}
-use Rattle.dsql_run_player.specs.Acts.{Woken}
+use Rattle.dsql_run_player.specs.Acts.{Hands, Woken}
 use Rattle.dsql_run_player.specs.Carried.{HearsNothing}
 use Rattle.dsql_run_player.specs.Playing.{IsAt, IsReady, KeepsLines, Playing}
 use Rattle.dsql_run_player.specs.Stepping.{Wakes, leave_of}
@@ -149,9 +149,12 @@ module _ (next : Next) (client : ℕ) (before after : Playing) (w : WakesUp next
           let n = call_of before.past client in
           names_none before.past after.past more.first n more.grouped (begins_no_entry n more.first (begins_itself n more.first more.itself)) label
 
+  pub woke_hands : Hands client next before.seats after.seats
+  woke_hands = given_hands client next before.seats after.seats ((w.ready.seats client).room w.busy) w.given
+
   pub woke_ready : IsReady after
   woke_ready =
-      wake_ready before after client next w.ready w.busy w.parked w.past w.went w.legal (w.chore ∙ w.ready.free) (given_hands client next before.seats after.seats ((w.ready.seats client).room w.busy) w.given)
+      wake_ready before after client next w.ready w.busy w.parked w.past w.went w.legal (w.chore ∙ w.ready.free) woke_hands
       (lines_fit before after same_lines woke_unnamed w.ready.lines)
 
   pub woke_quiet : HearsNothing before.past after.past

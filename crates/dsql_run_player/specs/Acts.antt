@@ -25,6 +25,11 @@ pub record SamePermits (seats now : List Seat) : Type 0 where
   pub permit : (client : ℕ) → (seat now client).permit ≡ (seat seats client).permit
   pub many : length seats ≤ length now
 
+-- Holds if each client but one has the permit that it had before.
+pub record SamePermitsBut (me : ℕ) (seats now : List Seat) : Type 0 where
+  pub permit : (client : ℕ) → client ≢ me → (seat now client).permit ≡ (seat seats client).permit
+  pub many : length seats ≤ length now
+
 -- Says what the client is handed, and that the others keep what they have.
 pub record Hands (me : ℕ) (next : Next) (seats now : List Seat) : Type 0 where
   pub handed : (seat now me).permit ≡ leave_of next

@@ -3,6 +3,7 @@ pub mod Playing
 pub mod Stepping
 pub mod Acts
 pub mod Chores
+pub mod Apart
 pub mod Carried
 pub mod Keeping
 pub mod Planned

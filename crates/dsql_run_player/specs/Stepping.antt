@@ -55,7 +55,7 @@ pub record HearsAnswer (n : ℕ) (before after : Playing) : Type 0 where
 
 -- Kinds of steps.
 
--- Holds if the first of the layer's own calls was answered, on this connection.
+-- Holds if one of the layer's own calls was answered, on this connection.
 pub record IsChoreOn (conn : Option ℕ) (first : Event) (call : ℕ) : Type 0 where
   pub entry : Entry
   pub heard : first ≡ Heard entry

@@ -39,13 +39,8 @@ impl Player {
         ensures fails { FailsForMemory result self.old.past self.new.past }
         ensures trimmed { self.new.trimmed ≡ self.old.trimmed }
     {
-        let Some(leave) = self.seats.take_leave(client) else {
-            unreachable!();
-        };
-        let permit = self.engine.permit(&leave)?;
+        let permit = self.permit(client)?;
         let heard = wires.perform(permit)?;
-        let next = self.engine.heard(heard)?;
-        self.seats.hand(client, leave_of(next));
-        Ok(())
+        self.hear(client, heard)
     }
 }

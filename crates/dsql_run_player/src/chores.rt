@@ -67,7 +67,7 @@ impl Player {
         ensures trimmed { self.new.trimmed ≡ self.old.trimmed }
     {
         let heard = connect_wire(wires, fleet, permit)?;
-        self.hear(heard)
+        self.take_in(heard)
     }
 
     /// Makes a call on a connection that rows or a transaction still have, although the run has ended.
@@ -87,11 +87,11 @@ impl Player {
         ensures trimmed { self.new.trimmed ≡ self.old.trimmed }
     {
         let heard = wires.perform(permit)?;
-        self.hear(heard)
+        self.take_in(heard)
     }
 
-    /// Takes in the answer to one of the layer's own calls.
-    fn hear(&mut self, heard: Heard) -> Result<(), Halt>
+    /// Takes in the answer to the layer's own call that is under way.
+    fn take_in(&mut self, heard: Heard) -> Result<(), Halt>
         requires answered { IsAnswered self.old heard }
         ensures takes { OnOk result ((permit : Permitted) → heard ≡ answered permit heard.answer
             → TakesAnswer permit heard self.old self.new) }
@@ -168,5 +168,5 @@ fn shut<F: Fleet>(
     let conn = permit.conn;
     let heard = wires.perform(permit)?;
     retire(wires, fleet, conn);
-    player.hear(heard)
+    player.take_in(heard)
 }

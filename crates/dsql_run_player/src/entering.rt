@@ -4,6 +4,7 @@ ghost use Rattle.dsql_engine_laws.specs.journal.Readers.{is_empty};
 ghost use Rattle.dsql_engine_laws.specs.history.Readers.Calls.{is_busy};
 ghost use Rattle.dsql_engine_laws.specs.history.Readers.Course.{has_ended};
 ghost use Rattle.dsql_engine_laws.specs.history.Rules.House.{is_quiet};
+ghost use Rattle.dsql_run_player.specs.Acts.{SamePermits, SamePermitsBut};
 ghost use Rattle.dsql_run_player.specs.Keeping.{ActsUnheard, SameCourse, TakesUp};
 ghost use Rattle.dsql_run_player.specs.Naming.{MakeOnce};
 ghost use Rattle.dsql_engine_laws.specs.follows.Labels.{times_by};
@@ -43,6 +44,7 @@ impl Player {
         ensures enters { OnOk result ((m : Moment) → IsAt m self.old
             → TakesStep m self.old self.new (IsEntryOf client)) }
         ensures grows { OnOk result (length self.old.past < length self.new.past) }
+        ensures handed { OnOk result (SamePermitsBut client self.old.seats self.new.seats) }
         ensures course { OnOk result (SameCourse self.old self.new) }
         ensures act { ActsUnheard result self.old self.new }
         ensures trimmed { self.new.trimmed ≡ self.old.trimmed }
@@ -62,6 +64,7 @@ impl Player {
         ensures enters { OnOk result ((m : Moment) → IsAtBut m client line self.old
             → TakesStep m self.old self.new (IsEntryOf client)) }
         ensures grows { OnOk result (length self.old.past < length self.new.past) }
+        ensures handed { OnOk result (SamePermitsBut client self.old.seats self.new.seats) }
         ensures course { OnOk result (TakesUp (λ label. times_by label line.op) self.old self.new) }
         ensures act { ActsUnheard result self.old self.new }
         ensures trimmed { self.new.trimmed ≡ self.old.trimmed }
@@ -80,6 +83,7 @@ impl Player {
         requires room { length self.old.past < most_events }
         ensures tells { OnOk result ((m : Moment) → IsAt m self.old
             → TakesStep m self.old self.new (IsTold self.old.past control)) }
+        ensures handed { OnOk result (SamePermits self.old.seats self.new.seats) }
         ensures course { OnOk result (SameCourse self.old self.new) }
         ensures act { ActsUnheard result self.old self.new }
         ensures trimmed { self.new.trimmed ≡ self.old.trimmed }

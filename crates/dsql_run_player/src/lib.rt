@@ -3,6 +3,7 @@
 #![tactic(auto)]
 
 mod admitting;
+mod apart;
 mod asking;
 pub mod carrying;
 mod chores;

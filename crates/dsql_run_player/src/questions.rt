@@ -1,8 +1,10 @@
-//! Questions about the clients of a player.
-ghost use Rattle.std.specs.Prelude.{◌≡◌, true, not, is_some};
+//! Questions about a player and its clients.
+ghost use Rattle.std.specs.Prelude.{◌≡◌, ◌&&◌, true, not, is_some};
 ghost use Rattle.dsql_engine_laws.specs.journal.Readers.{is_empty};
 ghost use Rattle.dsql_engine_laws.specs.history.Readers.Calls.{is_busy};
 ghost use Rattle.dsql_engine_laws.specs.history.Readers.Clients.{call_of};
+ghost use Rattle.dsql_engine_laws.specs.history.Readers.Course.{has_ended};
+ghost use Rattle.dsql_engine_laws.specs.history.Rules.House.{is_quiet};
 ghost use Rattle.dsql_engine_laws.specs.laws_ends.Over.{may_move};
 ghost use Rattle.dsql_run_wires.specs.Seats.{seat};
 
@@ -36,5 +38,13 @@ impl Player {
         ensures { result ≡ may_move self.now.past self.now.flights (call_of self.now.past client) }
     {
         self.engine.blocked(client).is_none()
+    }
+
+    /// Is true if the run may end. Every call has its reply or waits then, and the layer has no driver call of its own
+    /// to make.
+    pub fn may_end(&self) -> bool
+        ensures { result ≡ (is_quiet self.now.past && not (has_ended self.now.past)) }
+    {
+        self.engine.may_end()
     }
 }

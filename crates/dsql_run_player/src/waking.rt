@@ -4,6 +4,7 @@ ghost use Rattle.dsql_engine_laws.specs.history.Readers.Calls.{is_busy};
 ghost use Rattle.dsql_engine_laws.specs.history.Readers.Clients.{call_of};
 ghost use Rattle.dsql_engine_laws.specs.history.Rules.Flights.{is_in_flight};
 ghost use Rattle.dsql_engine_laws.specs.laws_ends.Over.{may_move};
+ghost use Rattle.dsql_run_player.specs.Acts.{SamePermitsBut};
 ghost use Rattle.dsql_run_player.specs.Keeping.{ActsUnheard, SameCourse};
 ghost use Rattle.dsql_engine_laws.specs.follows.Moments.{Moment};
 ghost use Rattle.dsql_run_player.specs.Playing.{IsAt, IsReady};
@@ -31,6 +32,7 @@ impl Player {
         ensures leave { IfOk result (λ shows. shows ≡ false → is_some (seat self.new.seats client).permit ≡ true) }
         ensures same { IfOk result (λ shows. shows ≡ false → self.new.past ≡ self.old.past) }
         ensures grows { IfOk result (λ shows. shows ≡ true → length self.old.past < length self.new.past) }
+        ensures handed { OnOk result (SamePermitsBut client self.old.seats self.new.seats) }
         ensures course { OnOk result (SameCourse self.old self.new) }
         ensures act { ActsUnheard result self.old self.new }
         ensures trimmed { self.new.trimmed ≡ self.old.trimmed }

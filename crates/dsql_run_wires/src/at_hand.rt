@@ -61,14 +61,6 @@ impl AtHand {
         self.leave = leave;
     }
 
-    /// Takes out the permit, if there is one.
-    pub(crate) fn take_leave(&mut self) -> Option<Leave>
-        ensures permit { result ≡ self.old.permit }
-        ensures after { self.new ≡ record self.old { permit = None } }
-    {
-        self.leave.take()
-    }
-
     /// Returns the permit, if there is one. It stays at hand.
     pub(crate) fn leave(&self) -> Option<&Leave>
         ensures some { IfSome result (λ leave. self.now.permit ≡ Some leave.now) }

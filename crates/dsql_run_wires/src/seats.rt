@@ -91,16 +91,6 @@ impl Seats {
         self.seats[client as usize].hand(leave);
     }
 
-    /// Takes the client's permit, if it has one.
-    pub fn take_leave(&mut self, client: u8) -> Option<Leave>
-        ensures permit { result ≡ (seat self.old client).permit }
-        ensures after { seat self.new client ≡ record (seat self.old client) { permit = None } }
-        ensures others { (c : ℕ) → c ≢ client → seat self.new c ≡ seat self.old c }
-        ensures count { length self.new ≡ length self.old }
-    {
-        self.seats.get_mut(client as usize)?.take_leave()
-    }
-
     /// Returns the client's permit, if it has one. The client keeps it.
     pub fn leave(&self, client: u8) -> Option<&Leave>
         ensures some { IfSome result (λ leave. (seat self.now client).permit ≡ Some leave.now) }

@@ -25,8 +25,8 @@ retire-requires g c =
     wire_heard g.F.Wire.Wire.told c.in_ok-heard.heard (slot c.args.wires.now c.args.permit.conn) (slot c.perform.new.self c.args.permit.conn) c.in_ok-heard.ensures.noted in
     search rules
 
-pub hear-requires : goal.hear-requires
-hear-requires g c =
+pub take_in-requires : goal.take_in-requires
+take_in-requires g c =
     let asks : AsksWire g.F.Wire.Wire.told c.args.permit c.in_ok-heard.heard c.args.player.now c.args.wires.now c.perform.new.self =
     asks_wire g.F.Wire.Wire.told (is_some (g.F.Fleet.told c.args.fleet.now)) c.args.permit c.in_ok-heard.heard c.args.player.now c.args.wires.now c.perform.new.self c.requires.to_make c.requires.wires
     (record { entry = c.in_ok-heard.ensures.entry; others = c.perform.ensures.others; noted = c.in_ok-heard.ensures.noted }) c.in_ok-heard.ensures.fits in
@@ -36,22 +36,22 @@ pub returns-clause-taken : goal.returns-clause-taken
 returns-clause-taken g c =
     let e = c.in_ok-heard.heard in
     let p = c.args.player.now in
-    let now = c.hear.new.self in
-    on_ok_weaker c.hear.result
+    let now = c.take_in.new.self in
+    on_ok_weaker c.take_in.result
     (λ (takes : (permit : Permit) → e ≡ answered permit e.answer → TakesAnswer permit e p now). record { entry = e; takes = takes c.args.permit c.in_ok-heard.ensures.entry })
-    c.hear.ensures.takes
+    c.take_in.ensures.takes
 
 pub returns-clause-run : goal.returns-clause-run
 returns-clause-run g c =
     let e = c.in_ok-heard.heard in
     let p = c.args.player.now in
-    let now = c.hear.new.self in
-    shut_run g.F.Fleet g.F.Wire.Wire.told c.hear.result c.args.fleet.now c.retire.new.fleet c.args.permit e p now c.args.wires.now c.perform.new.self c.retire.new.wires c.requires.shuts c.requires.wires
+    let now = c.take_in.new.self in
+    shut_run g.F.Fleet g.F.Wire.Wire.told c.take_in.result c.args.fleet.now c.retire.new.fleet c.args.permit e p now c.args.wires.now c.perform.new.self c.retire.new.wires c.requires.shuts c.requires.wires
     (asks_wire g.F.Wire.Wire.told (is_some (g.F.Fleet.told c.args.fleet.now)) c.args.permit e p c.args.wires.now c.perform.new.self c.requires.to_make c.requires.wires
     (record { entry = c.in_ok-heard.ensures.entry; others = c.perform.ensures.others; noted = c.in_ok-heard.ensures.noted }) c.in_ok-heard.ensures.fits)
     (record { slots = c.retire.ensures.slots; told = c.retire.ensures.told; exact = c.retire.ensures.exact; able = c.retire.ensures.able })
-    (on_ok_weaker c.hear.result (λ (takes : (permit : Permit) → e ≡ answered permit e.answer → TakesAnswer permit e p now). takes c.args.permit c.in_ok-heard.ensures.entry) c.hear.ensures.takes)
-    c.hear.ensures.fails.same c.hear.ensures.legal
+    (on_ok_weaker c.take_in.result (λ (takes : (permit : Permit) → e ≡ answered permit e.answer → TakesAnswer permit e p now). takes c.args.permit c.in_ok-heard.ensures.entry) c.take_in.ensures.takes)
+    c.take_in.ensures.fails.same c.take_in.ensures.legal
 
 pub returns-in_err-heard-clause-run : goal.returns-in_err-heard-clause-run
 returns-in_err-heard-clause-run g c =

@@ -2,7 +2,7 @@ use Rattle.std.proofs.Common.{◌≡◌, ap, subst}
 use Rattle.std.proofs.lemmas.Result.{err_from_is_err_and}
 use Rattle.dsql_engine.specs.Core.{Core}
 use Rattle.dsql_run_player.specs.Playing.{Playing}
-use Rattle.dsql_run_player.proofs.Entered.{control_acts, control_course, control_step, failed, seen}
+use Rattle.dsql_run_player.proofs.Entered.{control_acts, control_course, control_step, failed, same_leave, seen}
 use Rattle.dsql_run_player.proofs.player.Player.control.Goals as goal
 
 pub returns-in_err-control-clause-act : goal.returns-in_err-control-clause-act
@@ -25,3 +25,6 @@ pub returns-clause-act : goal.returns-clause-act
 returns-clause-act c =
     control_acts c.args.control c.self.inside.engine c.control.new.self c.self.inside.seats c.self.inside.released c.args.self.now c.self.view_is c.requires.ready c.in_ok-control.ensures.group
     c.control.ensures.flights c.control.ensures.chore c.control.ensures.legal
+
+pub returns-clause-handed : goal.returns-clause-handed
+returns-clause-handed c = same_leave c.self.inside.engine c.control.new.self c.self.inside.seats c.self.inside.released c.args.self.now c.self.view_is

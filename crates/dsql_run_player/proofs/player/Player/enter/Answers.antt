@@ -7,7 +7,8 @@ use Rattle.dsql_engine.specs.Core.{Core}
 use Rattle.dsql_engine_laws.specs.laws_steps.Groups.{most_events}
 use Rattle.dsql_run_player.specs.Playing.{Playing}
 use Rattle.dsql_run_player.specs.Stepping.{leave_of}
-use Rattle.dsql_run_player.proofs.Entered.{HasEntered, SeatsCall, entry_acts, entry_course, entry_is_step, entry_longer, enters_by, failed, held_nowhere, held_where, seats_call, seen}
+use Rattle.dsql_run_player.proofs.Asked.{hands_but}
+use Rattle.dsql_run_player.proofs.Entered.{HasEntered, SeatsCall, entry_acts, entry_course, entry_hands, entry_is_step, entry_longer, enters_by, failed, held_nowhere, held_where, seats_call, seen}
 use Rattle.dsql_run_player.proofs.Named.{fits_once}
 use Rattle.dsql_run_player.proofs.player.Player.enter.Goals as goal
 use Rattle.dsql_run_player.proofs.player.Player.enter.Goals.{then-not-self, else-not-self}
@@ -61,6 +62,7 @@ returns c =
     record {
       enters = entry_is_step client line next old new h;
       grows = entry_longer client line next old new h;
+      handed = hands_but client next old.seats new.seats (entry_hands client line next old new h);
       course = entry_course client line next old new h;
       act = entry_acts client line next old new h;
       trimmed = c.enter.ensures.trimmed ∙ ap (λ (q : Playing). q.trimmed) c.self.view_is;

@@ -6,11 +6,13 @@ use Rattle.dsql_engine_laws.specs.journal.Readers.{is_empty}
 use Rattle.dsql_run_wires.specs.Seats.{seat}
 use Rattle.dsql_engine_laws.specs.laws_steps.Groups.{most_events}
 use Rattle.dsql_engine_laws.specs.follows.Labels.{times_by}
+use Rattle.dsql_run_player.specs.Acts.{SamePermits}
 use Rattle.dsql_run_player.specs.Naming.{times}
 use Rattle.dsql_run_player.specs.Playing.{IsAt, IsReady, Playing}
 use Rattle.dsql_run_player.specs.Stepping.{IsEntryOf}
+use Rattle.dsql_run_player.proofs.Asked.{permits_then}
 use Rattle.dsql_run_player.proofs.Entered.{acts_since, course_since, same_step, seen}
-use Rattle.dsql_run_player.proofs.Kept.{KeepsSo, kept_ready, some_kept, taken_at, taken_so}
+use Rattle.dsql_run_player.proofs.Kept.{KeepsSo, kept_ready, same_permits, some_kept, taken_at, taken_so}
 use Rattle.dsql_run_player.proofs.player.Player.enter_kept.Goals as goal
 
 pub enter-requires-clause-ready : goal.enter-requires-clause-ready
@@ -70,6 +72,10 @@ returns c =
           (steps m (taken_at m p client line c.take_first.new.self (subst (IsAt m) (sym c.self.view_is) at) (sym c.in-Some.ensures.first) k)))
           c.enter.ensures.enters;
       grows = subst (λ (q : Playing). OnOk c.enter.result (length q.past < length new.past)) c.self.view_is c.enter.ensures.grows;
+      handed = on_ok_weaker c.enter.result
+          (permits_then client old.seats mid.seats new.seats
+          (subst (λ (q : Playing). SamePermits q.seats mid.seats) c.self.view_is (same_permits client (drop 1 (seat p.seats client).kept) p.seats mid.seats k)))
+          c.enter.ensures.handed;
       course = on_ok_weaker c.enter.result (course_since line mid old new past released names) c.enter.ensures.course;
       act = acts_since c.enter.result mid old new past c.enter.ensures.act;
       trimmed = c.enter.ensures.trimmed ∙ ap (λ (q : Playing). q.trimmed) c.self.view_is;

@@ -18,8 +18,8 @@ connect_wire-requires-clause-empty g c = λ κs h.
 pub connect_wire-requires-clause-opens : goal.connect_wire-requires-clause-opens
 connect_wire-requires-clause-opens g c = λ κs h. ((made_so c.args.self.now c.args.permit c.requires.to_make).first c.requires.opens).0
 
-pub hear-requires : goal.hear-requires
-hear-requires g c = record {
+pub take_in-requires : goal.take_in-requires
+take_in-requires g c = record {
   answered = connect_answered c.args.self.now c.args.permit c.in_ok-heard.heard c.requires.to_make c.requires.opens c.in_ok-heard.ensures.heard;
 }
 
@@ -27,22 +27,22 @@ pub returns-clause-taken : goal.returns-clause-taken
 returns-clause-taken g c =
     let e = c.in_ok-heard.heard in
     let p = c.args.self.now in
-    let now = c.hear.new.self in
-    on_ok_weaker c.hear.result
+    let now = c.take_in.new.self in
+    on_ok_weaker c.take_in.result
     (λ (takes : (permit : Permit) → e ≡ answered permit e.answer → TakesAnswer permit e p now). record { entry = e; takes = takes c.args.permit c.in_ok-heard.ensures.heard.entry })
-    c.hear.ensures.takes
+    c.take_in.ensures.takes
 
 pub returns-clause-run : goal.returns-clause-run
 returns-clause-run g c =
     let e = c.in_ok-heard.heard in
     let p = c.args.self.now in
-    let now = c.hear.new.self in
-    opened_run g.F.Fleet g.F.Wire.Wire.told c.hear.result c.args.fleet.now c.connect_wire.new.fleet c.args.permit e p now c.args.wires.now c.connect_wire.new.wires c.requires.to_make
+    let now = c.take_in.new.self in
+    opened_run g.F.Fleet g.F.Wire.Wire.told c.take_in.result c.args.fleet.now c.connect_wire.new.fleet c.args.permit e p now c.args.wires.now c.connect_wire.new.wires c.requires.to_make
     c.requires.opens c.requires.wires
     (record { answers = c.in_ok-heard.ensures.heard; others = c.in_ok-heard.ensures.others; wire = c.in_ok-heard.ensures.wire; unplanned = c.in_ok-heard.ensures.unplanned; told = c.in_ok-heard.ensures.asked; able = c.connect_wire.ensures.able })
     (connect_answered p c.args.permit e c.requires.to_make c.requires.opens c.in_ok-heard.ensures.heard)
-    (on_ok_weaker c.hear.result (λ (takes : (permit : Permit) → e ≡ answered permit e.answer → TakesAnswer permit e p now). takes c.args.permit c.in_ok-heard.ensures.heard.entry) c.hear.ensures.takes)
-    c.hear.ensures.fails.same c.hear.ensures.legal
+    (on_ok_weaker c.take_in.result (λ (takes : (permit : Permit) → e ≡ answered permit e.answer → TakesAnswer permit e p now). takes c.args.permit c.in_ok-heard.ensures.heard.entry) c.take_in.ensures.takes)
+    c.take_in.ensures.fails.same c.take_in.ensures.legal
 
 pub returns-in_err-heard-clause-run : goal.returns-in_err-heard-clause-run
 returns-in_err-heard-clause-run g c =

@@ -15,8 +15,8 @@ perform-requires g c =
     let p = c.args.self.now in
     wire_sends g.F.Wire.Wire.told (is_some (g.F.Fleet.told c.args.fleet.now)) p.past c.args.permit c.args.wires.now c.requires.wires (made_so p c.args.permit c.requires.to_make).sent c.requires.opens
 
-pub hear-requires : goal.hear-requires
-hear-requires g c =
+pub take_in-requires : goal.take_in-requires
+take_in-requires g c =
     let asks : AsksWire g.F.Wire.Wire.told c.args.permit c.in_ok-heard.heard c.args.self.now c.args.wires.now c.perform.new.self =
     asks_wire g.F.Wire.Wire.told (is_some (g.F.Fleet.told c.args.fleet.now)) c.args.permit c.in_ok-heard.heard c.args.self.now c.args.wires.now c.perform.new.self c.requires.to_make c.requires.wires
     (record { entry = c.in_ok-heard.ensures.entry; others = c.perform.ensures.others; noted = c.in_ok-heard.ensures.noted }) c.in_ok-heard.ensures.fits in
@@ -26,21 +26,21 @@ pub returns-clause-taken : goal.returns-clause-taken
 returns-clause-taken g c =
     let e = c.in_ok-heard.heard in
     let p = c.args.self.now in
-    let now = c.hear.new.self in
-    on_ok_weaker c.hear.result
+    let now = c.take_in.new.self in
+    on_ok_weaker c.take_in.result
     (λ (takes : (permit : Permit) → e ≡ answered permit e.answer → TakesAnswer permit e p now). record { entry = e; takes = takes c.args.permit c.in_ok-heard.ensures.entry })
-    c.hear.ensures.takes
+    c.take_in.ensures.takes
 
 pub returns-clause-run : goal.returns-clause-run
 returns-clause-run g c =
     let e = c.in_ok-heard.heard in
     let p = c.args.self.now in
-    let now = c.hear.new.self in
-    tidied_run g.F.Fleet g.F.Wire.Wire.told c.hear.result c.args.fleet.now c.args.permit e p now c.args.wires.now c.perform.new.self c.requires.opens c.requires.shuts c.requires.wires
+    let now = c.take_in.new.self in
+    tidied_run g.F.Fleet g.F.Wire.Wire.told c.take_in.result c.args.fleet.now c.args.permit e p now c.args.wires.now c.perform.new.self c.requires.opens c.requires.shuts c.requires.wires
     (asks_wire g.F.Wire.Wire.told (is_some (g.F.Fleet.told c.args.fleet.now)) c.args.permit e p c.args.wires.now c.perform.new.self c.requires.to_make c.requires.wires
     (record { entry = c.in_ok-heard.ensures.entry; others = c.perform.ensures.others; noted = c.in_ok-heard.ensures.noted }) c.in_ok-heard.ensures.fits)
-    (on_ok_weaker c.hear.result (λ (takes : (permit : Permit) → e ≡ answered permit e.answer → TakesAnswer permit e p now). takes c.args.permit c.in_ok-heard.ensures.entry) c.hear.ensures.takes)
-    c.hear.ensures.fails.same c.hear.ensures.legal
+    (on_ok_weaker c.take_in.result (λ (takes : (permit : Permit) → e ≡ answered permit e.answer → TakesAnswer permit e p now). takes c.args.permit c.in_ok-heard.ensures.entry) c.take_in.ensures.takes)
+    c.take_in.ensures.fails.same c.take_in.ensures.legal
 
 pub returns-in_err-heard-clause-run : goal.returns-in_err-heard-clause-run
 returns-in_err-heard-clause-run g c =

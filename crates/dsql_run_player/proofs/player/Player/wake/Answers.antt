@@ -10,9 +10,9 @@ use Rattle.dsql_engine_laws.specs.laws_steps.Groups.{gone_on, most_events}
 use Rattle.dsql_run_player.specs.Playing.{Playing}
 use Rattle.dsql_run_player.specs.Stepping.{leave_of}
 use Rattle.dsql_run_player.proofs.Hearing.{hears_none}
-use Rattle.dsql_run_player.proofs.Asked.{Given}
+use Rattle.dsql_run_player.proofs.Asked.{Given, hands_but}
 use Rattle.dsql_engine_laws.specs.history.Trimmed.{IsLeftOf}
-use Rattle.dsql_run_player.proofs.Woke.{WakesUp, history_longer, history_no_longer, woke_course, woke_leave, woke_quiet, woke_ready, woke_same, woke_wakes}
+use Rattle.dsql_run_player.proofs.Woke.{WakesUp, history_longer, history_no_longer, woke_course, woke_hands, woke_leave, woke_quiet, woke_ready, woke_same, woke_wakes}
 use Rattle.dsql_run_player.proofs.player.Player.wake.Goals as goal
 
 pub wake-requires-clause-unfinished : goal.wake-requires-clause-unfinished
@@ -35,6 +35,7 @@ returns-in_err-next c =
       leave = rw p.1 tt;
       same = rw p.1 tt;
       grows = rw p.1 tt;
+      handed = rw p.1 tt;
       course = rw p.1 tt;
       act = record {
         ready = rw p.1 tt;
@@ -83,6 +84,7 @@ returns c =
       leave = λ h. woke_leave next me old new w (as_before h);
       same = as_before;
       grows = grew;
+      handed = hands_but me next old.seats new.seats (woke_hands next me old new w);
       course = woke_course next me old new w;
       act = record {
         ready = woke_ready next me old new w;
