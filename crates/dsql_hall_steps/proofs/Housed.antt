@@ -1,0 +1,99 @@
+-- What the house does next, as the hall lets it take a step. The argument compares the hall before and after.
+use Rattle.std.proofs.Common.{◌≡◌, ◌≤◌, ◌<◌, ◌⊎◌, inl, inr, ℕ, Bool, true, false, List, [], ◌∷◌, drop, length, Option, Some, None, is_some, refl, ap, sym, subst, ◌∙◌, arith}
+use Rattle.dsql_engine_laws.specs.driver.Wires.{WireTold}
+use Rattle.dsql_engine_laws.specs.journal.declared.entry.Permit.{Permit}
+use Rattle.dsql_engine_laws.specs.history.declared.event.Control.{Control}
+use Rattle.dsql_engine_laws.specs.history.Rules.House.{chore_due}
+use Rattle.dsql_engine_laws.specs.wire.Journaled.{Journaled}
+use Rattle.dsql_run_wires.specs.WiresFit.{slot}
+use Rattle.dsql_run_player.specs.declared.halt.Halt.TheVariants as halts
+use Rattle.dsql_run_player.specs.Playing.{Playing}
+use Rattle.dsql_run_player.specs.Stepping.{IsNext, goes}
+use Rattle.dsql_hall_bonds.specs.Work.{Work}
+use Rattle.dsql_hall_steps.specs.Halls.{InHall, IsHall, MayComeBack, Terms}
+use Rattle.dsql_hall_steps.specs.House.{ComesFirst}
+use Rattle.dsql_hall_steps.specs.HouseSteps.{HasRunOut, HouseWaits, SetsLimit, TakesOut}
+use Rattle.dsql_hall_steps.proofs.Carrying.{stopped_hall}
+use Rattle.dsql_hall_steps.proofs.Setting.{HasSet, set_on}
+
+-- A limit is set.
+
+first_gone : (control : Control) (settings now : List Control) → (later : List Control) × ComesFirst control settings later → now ≡ drop 1 settings → ComesFirst control settings now
+first_gone control settings now first gone =
+    let after : now ≡ first.0 = gone ∙ ap (drop 1) first.1.is in
+    record { is = first.1.is ∙ ap (λ later. control ∷ later) (sym after) }
+
+pub limit_set : {W : Type 0} (heard : W → Option WireTold) (race : Terms) (h before : InHall W) (q : Playing) (control : Control) (now : List Control) → IsHall heard race h → h ≡ before → before.stopped ≡ None
+    → (later : List Control) × ComesFirst control before.settings later → now ≡ drop 1 h.settings → HasSet control h.player q → IsHall heard race (record h { player = q; settings = now })
+limit_set heard race h before q control now is was runs first gone set =
+    set_on heard race h q control now is (ap (λ b. b.stopped) was ∙ runs)
+    (first_gone control h.settings now (subst (λ b. (later : List Control) × ComesFirst control b.settings later) (sym was) first) gone) set
+
+pub limit_does : {W : Type 0} (h before after : InHall W) (control : Control) → h ≡ before → after.stopped ≡ None → (later : List Control) × ComesFirst control before.settings later → after.settings ≡ drop 1 h.settings
+    → SetsLimit before after
+limit_does h before after control was runs first gone = record {
+  control = control;
+  first = first_gone control before.settings after.settings first (gone ∙ ap (λ b. drop 1 b.settings) was);
+  runs = runs;
+}
+
+-- A slot is made.
+
+pub room_made : {W : Type 0} (slots now : List (Option (Journaled W))) (out : List Work) (away : ℕ) → ((c : ℕ) → slot now c ≡ slot slots c) → length slots ≤ length now → MayComeBack slots out away
+    → MayComeBack now out away
+room_made slots now out away same many back = record {
+  homes = λ c work found.
+      let home = back.homes c work found in
+      record { number = home.number; empty = same c ∙ home.empty; room = λ other. let room = home.room other in omega (arith, room, many) };
+  apart = back.apart;
+  count = back.count;
+}
+
+pub room_lacks : {W : Type 0} (heard : W → Option WireTold) (race : Terms) (h : InHall W) (now : List (Option (Journaled W))) → IsHall heard race h → ((c : ℕ) → slot now c ≡ slot h.slots c)
+    → length h.slots ≤ length now → IsHall heard race (record h { slots = now; stopped = Some halts.Memory })
+room_lacks heard race h now is same many =
+    stopped_hall heard race (record h { slots = now; stopped = Some halts.Memory }) halts.Memory refl is.keeps (room_made h.slots now h.out h.away same many is.back) (λ full. absurd cc)
+
+-- One of the layer's own driver calls is taken out.
+pub taken_out : {W : Type 0} (h before after : InHall W) (permit : Permit) (bond : Work) → h ≡ before → chore_due before.player.past ≡ Some permit.conn
+    → bond ≡ record { conn = permit.conn; permit = permit; past = h.player.past }
+    → after.out ≡ record { conn = permit.conn; permit = permit; past = h.player.past } ∷ h.out → after.player ≡ h.player → after.stopped ≡ h.stopped → before.stopped ≡ None → TakesOut bond before after
+taken_out h before after permit bond was due tied out player stopped runs = record {
+  due = due ∙ ap (λ (w : Work). Some w.conn) (sym tied);
+  out = out ∙ (ap (λ w. w ∷ h.out) (sym tied) ∙ ap (λ b. bond ∷ b.out) was);
+  player = player ∙ ap (λ b. b.player) was;
+  runs = stopped ∙ (ap (λ b. b.stopped) was ∙ runs);
+}
+
+-- The house waits, or rests.
+
+pub waits_for_chore : {W : Type 0} (h before : InHall W) → h ≡ before → h.stopped ≡ None → is_some h.chore ≡ true → HouseWaits before before
+waits_for_chore h before was runs some = record {
+  same = refl;
+  runs = ap (λ b. b.stopped) (sym was) ∙ runs;
+  why = inl (ap (λ b. is_some b.chore) (sym was) ∙ some);
+}
+
+goes_on : (p : Playing) (next : Option ℕ) → IsNext p next → is_some next ≡ true → (client : ℕ) × (goes p client ≡ true)
+goes_on p (Some client) is some = (client, is.may)
+goes_on p None is some = absurd cc
+
+pub waits_for_client : {W : Type 0} (h before : InHall W) (next : Option ℕ) → h ≡ before → before.stopped ≡ None → IsNext h.player next → is_some next ≡ true → HouseWaits before before
+waits_for_client h before next was runs is some = record {
+  same = refl;
+  runs = runs;
+  why = inr (subst (λ b. (client : ℕ) × (goes b.player client ≡ true)) was (goes_on h.player next is some));
+}
+
+none_goes : (p : Playing) (next : Option ℕ) → IsNext p next → is_some next ≡ false → (client : ℕ) → goes p client ≡ false
+none_goes p (Some client) is none = absurd cc
+none_goes p None is none = is
+
+pub rests_then : {W : Type 0} (h before after : InHall W) (next : Option ℕ) → h ≡ before → before.settings ≡ [] → chore_due before.player.past ≡ None → IsNext h.player next → is_some next ≡ false → after.resting ≡ true
+    → HasRunOut before after
+rests_then h before after next was set none is nobody rests = record {
+  set = set;
+  none = none;
+  nobody = subst (λ b. (client : ℕ) → goes b.player client ≡ false) was (none_goes h.player next is nobody);
+  rests = rests;
+}

@@ -1,0 +1,134 @@
+//! Opens a hall before the threads of its race, and closes it after them.
+ghost use Rattle.std.specs.Prelude.{◌≡◌, ◌≤◌, ◌∷◌, [], None, Some, false, length};
+ghost use Rattle.dsql_engine_laws.specs.history.Readers.Course.{has_ended};
+ghost use Rattle.dsql_engine_laws.specs.history.Readers.Journals.{journal};
+ghost use Rattle.dsql_engine_laws.specs.laws_steps.Groups.{most_events};
+ghost use Rattle.dsql_run_wires.specs.WiresFit.{PlansFit, WiresFit};
+ghost use Rattle.dsql_run_player.specs.Playing.{IsAt, IsReady};
+ghost use Rattle.dsql_hall_steps.specs.Halls.{Keeps, house};
+ghost use Rattle.dsql_hall_steps.specs.House.{IsClosed, IsOwn, own_work};
+ghost use Rattle.dsql_hall_steps.specs.Racing.{resting};
+
+use crate::hall::Hall;
+use crate::race::Race;
+use dsql_engine_laws::{Control, Wire};
+use dsql_hall_bonds::{Bond, Cell, Keeper, WorkName};
+use dsql_run_player::{Halt, Player};
+use dsql_run_wires::Wires;
+use std::collections::VecDeque;
+use std::marker::Brand;
+
+/// What a hall held: the player, the wires, the limits that weren't set, and what stopped the run. It can't be dropped,
+/// because its wires can't.
+pub struct Closed<W: Wire> {
+    pub player: Player,
+    pub wires: Wires<W>,
+    pub settings: VecDeque<Control>,
+    pub stopped: Option<Halt>,
+}
+
+/// Returns the house's own bond, which is out from then on.
+fn tie_own<K: Race, N: WorkName>(keeper: &mut Keeper<K>, cell: &Cell, player: &Player) -> Bond<K>
+    requires cell { cell.now ≡ K.cell }
+    requires work { N.work ≡ own_work player.now.past }
+    requires none { keeper.old ≡ [] }
+    ensures out { keeper.new ≡ own_work player.now.past ∷ [] }
+    ensures bond { result ≡ own_work player.now.past }
+{
+    keeper.tie::<N>(cell)
+}
+
+/// Returns what stopped the run. If nothing did, work besides the house's own that is still out does, for want of
+/// memory.
+fn stopped_by(stopped: Option<Halt>, away: u64) -> Option<Halt>
+    ensures none { result ≡ None → (stopped ≡ None) × (away ≡ 1) }
+    ensures full { result ≡ Some Halt.Full → stopped ≡ Some Halt.Full }
+{
+    if stopped.is_none() && away != 1 {
+        return Some(Halt::Memory);
+    }
+    stopped
+}
+
+impl<K: Race, W: Wire> Hall<K, W> {
+    /// Returns a hall of a run that has begun and whose lines were read, with the house's own bond.
+    pub fn open(
+        cell: &Cell,
+        mut keeper: Keeper<K>,
+        player: Player,
+        wires: Wires<W>,
+        settings: VecDeque<Control>,
+    ) -> (Hall<K, W>, Bond<K>)
+        requires cell { cell.now ≡ K.cell }
+        requires none { keeper ≡ [] }
+        requires ready { IsReady player }
+        requires running { has_ended player.past ≡ false }
+        requires at { IsAt (resting K.lines player) player }
+        requires keeps { Keeps (record {
+          run = K.run;
+          lines = K.lines;
+          settings = K.settings;
+          telling = K.telling;
+          made = K.made;
+        }) player settings.items }
+        requires wires { WiresFit W.told K.telling player.past wires }
+        requires plans { PlansFit W.told K.made player.past wires }
+        requires silent { journal player.past house ≡ [] }
+        ensures own { IsOwn K.made result.1 }
+        ensures past { result.1.past ≡ player.past }
+    {
+        let bond = tie_own::<K, Brand>(&mut keeper, cell, &player);
+        let hall = Hall {
+            player,
+            wires,
+            keeper,
+            away: 1,
+            settings,
+            stopped: None,
+            chore: None,
+            resting: false,
+        };
+        (hall, bond)
+    }
+
+    /// Closes a hall whose threads have ended. If nothing stopped the run and no other work than the house's own is
+    /// out, the wires that are left fit the history. Work that is still out stops the run for want of memory.
+    pub fn close(self, cell: &Cell, own: Bond<K>) -> Closed<W>
+        requires cell { cell.now ≡ K.cell }
+        requires own { IsOwn K.made own }
+        ensures keeps { Keeps (record {
+          run = K.run;
+          lines = K.lines;
+          settings = K.settings;
+          telling = K.telling;
+          made = K.made;
+        }) result.player result.settings.items }
+        ensures full { result.stopped ≡ Some Halt.Full → most_events ≤ length result.player.past }
+        ensures well { result.stopped ≡ None → IsClosed W.told (record {
+          run = K.run;
+          lines = K.lines;
+          settings = K.settings;
+          telling = K.telling;
+          made = K.made;
+        }) own.past result.player result.wires }
+    {
+        let Hall {
+            player,
+            wires,
+            mut keeper,
+            away,
+            settings,
+            stopped,
+            chore: _,
+            resting: _,
+        } = self;
+        keeper.untie(cell, own);
+        let stopped = stopped_by(stopped, away);
+        Closed {
+            player,
+            wires,
+            settings,
+            stopped,
+        }
+    }
+}
