@@ -4,3 +4,5 @@ pub mod Written
 pub mod Heading
 pub mod Summaries
 pub mod Trimming
+pub mod Raced
+pub mod TakingUp
