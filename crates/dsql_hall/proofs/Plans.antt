@@ -25,7 +25,7 @@ none_planned [] c = refl
 none_planned (plan ∷ earlier) c = none_planned earlier c
 
 -- Without a wire, each wire has these plans and wants.
-none_fit : {W : Type 0} (heard : W → Option WireTold) (script : List Line) (past : List Event) (slots : List (Option (Journaled W))) → slots ≡ [] → PlansFit heard (plans_first script) past slots
+pub none_fit : {W : Type 0} (heard : W → Option WireTold) (script : List Line) (past : List Event) (slots : List (Option (Journaled W))) → slots ≡ [] → PlansFit heard (plans_first script) past slots
 none_fit heard script past slots none = rw none (λ c. record { unheard = λ empty. none_planned (reverse (filter_map plan_of script)) c; told = tt })
 
 -- A fleet that recorded exactly the plans of the lines as a race began records exactly them and the race at its end.

@@ -4,14 +4,10 @@ use Rattle.dsql_engine_laws.specs.driver.Wires.{WirePlan}
 use Rattle.dsql_engine_laws.specs.history.declared.event.Control.{Control}
 use Rattle.dsql_engine_laws.specs.history.declared.event.Control.TheVariants.{Set}
 use Rattle.dsql_engine_laws.specs.history.declared.event.Event.{Event}
-use Rattle.dsql_engine_laws.specs.history.Legal.{Legal}
-use Rattle.dsql_engine_laws.specs.history.Readers.Course.{has_ended}
 use Rattle.dsql_engine_laws.specs.follows.declared.line.Line.{Line}
 use Rattle.dsql_engine_laws.specs.follows.declared.line.Line.TheVariants as lines
 use Rattle.dsql_hall_steps.specs.Limits.{set_in}
 use Rattle.dsql_hall_steps.specs.Racing.{Races, RacesAll}
-use Rattle.dsql_run_player.specs.Carried.{HearsNothing}
-use Rattle.dsql_run_player.specs.Playing.{Playing}
 use Rattle.dsql_run_wires.specs.Made.{Made, PlannedAhead}
 
 -- Returns the limit that a line sets, if it sets one. No line of a race sets the moment.
@@ -37,16 +33,6 @@ plans_first lines = map (λ plan. PlannedAhead (0, plan)) (reverse (filter_map p
 pub record SetsSome (settings : List Control) (past : List Event) : Type 0 where
   pub left : List Control
   pub whole : set_in past ++ left ≡ settings
-
--- Holds of a player that set the first of these limits, and no others, in a race of these lines. Meanwhile no client
--- entered a line, nothing was heard, and the run didn't end.
-pub record SetsLimits (script : List Line) (limits : List Control) (old new : Playing) : Type 0 where
-  pub races : (run : Event) → Races run script old.past → Races run script new.past
-  pub settings : SetsSome (set_in old.past ++ limits) new.past
-  pub unheard : HearsNothing old.past new.past
-  pub ended : has_ended new.past ≡ has_ended old.past
-  pub trimmed : new.trimmed ≡ old.trimmed
-  pub legal : Legal new.past
 
 -- Holds if a race carried these lines out, the oldest first. From the run's first event on each client's lines were
 -- entered in their order, each once, and each call has its reply. The limits of the lines were set in their order, and

@@ -1,8 +1,6 @@
-//! Races on one thread: the calling one takes each step.
-ghost use Rattle.std.specs.Prelude.{◌≡◌, ◌≤◌, ◌++◌, ℕ, List, [], Option, None, true, false, is_some, reverse, length, Err, OnOk};
-ghost use Rattle.std.specs.List.{list_all};
+//! Races on threads: one a client, and the calling one for the house.
+ghost use Rattle.std.specs.Prelude.{◌≡◌, ◌≤◌, ◌++◌, ℕ, [], Option, true, false, is_some, reverse, length, Err, OnOk};
 ghost use Rattle.dsql_engine_laws.specs.driver.Wires.{FleetTold};
-ghost use Rattle.dsql_engine_laws.specs.history.declared.event.Event.{Event};
 ghost use Rattle.dsql_engine_laws.specs.history.declared.event.Event.TheVariants.{Run};
 ghost use Rattle.dsql_engine_laws.specs.history.Legal.{Legal};
 ghost use Rattle.dsql_engine_laws.specs.history.Readers.Course.{has_ended};
@@ -10,41 +8,42 @@ ghost use Rattle.dsql_engine_laws.specs.history.Readers.Journals.{journal};
 ghost use Rattle.dsql_engine_laws.specs.history.Rules.House.{is_quiet};
 ghost use Rattle.dsql_engine_laws.specs.laws_ends.Over.{IsOver};
 ghost use Rattle.dsql_engine_laws.specs.laws_steps.Groups.{most_events};
-ghost use Rattle.dsql_hall_steps.specs.Limits.{set_in, sets_limit};
-ghost use Rattle.dsql_hall_steps.specs.Racing.{Races, RacesAll, resting};
+ghost use Rattle.dsql_hall_steps.specs.Limits.{set_in};
+ghost use Rattle.dsql_hall_steps.specs.Racing.{Races, resting};
 ghost use Rattle.dsql_run_player.specs.Playing.{IsAt, IsReady};
-ghost use Rattle.dsql_run_wires.specs.Told.{FleetTells, SameAbility, with_told};
-ghost use Rattle.dsql_run_wires.specs.WiresFit.{WiresFit, slot};
-ghost use Rattle.dsql_hall.specs.Raced.{RacesInPart, RacesThrough, SetsSome, plans_first, settings_of};
+ghost use Rattle.dsql_run_wires.specs.Told.{SameAbility, with_told};
+ghost use Rattle.dsql_hall.specs.Ends.{EndsRace};
+ghost use Rattle.dsql_hall.specs.Fleets.{RecordsOn};
+ghost use Rattle.dsql_hall.specs.Raced.{RacesInPart, RacesThrough, plans_first, settings_of};
 
-use crate::limits::set_limits;
+use crate::ending::end_race;
+use crate::house::House;
+use crate::raced::Raced;
+use crate::shared::SharedHall;
+use crate::threads::run_threads;
 use dsql_engine_laws::{Fleet, Line};
+use dsql_hall_bonds::Unnamed;
+use dsql_hall_steps::{Hall, Race};
 use dsql_history::{Clock, Control, Gate, Past};
-use dsql_run_player::{Halt, Player, carry_end};
-use dsql_run_wires::{Wires, retire_all};
-use std::alloc::Global;
+use dsql_run_player::{Halt, Player};
+use dsql_run_wires::Wires;
+use std::alloc::{AllocError, Global};
 use std::collections::VecDeque;
+use std::marker::Brand;
 use std::sync::Wait;
 use std::thread::Threads;
-
-/// A race that is over: the player with its whole history, and what stopped the race, if anything did.
-#[derive(Drop)]
-pub struct Raced {
-    pub player: Player,
-    pub stopped: Result<(), Halt>,
-}
 
 /// Races the lines that the player's clients keep, and sets the limits. Then ends the run, and gives all wires back to
 /// the fleet. `lines` are the lines of the script, newest first, for proofs alone.
 pub fn race<F: Fleet, C: Clock, G: Gate, R: Threads + Wait + Sync>(
-    _rt: &R,
+    rt: &R,
     alloc: Global,
     player: Player,
     lines: Past<Line>,
     settings: VecDeque<Control>,
     fleet: &mut F,
     _clock: &mut C,
-    _gate: &G,
+    gate: &G,
 ) -> Raced
     requires ready { IsReady player }
     requires running { has_ended player.past ≡ false }
@@ -67,43 +66,84 @@ pub fn race<F: Fleet, C: Clock, G: Gate, R: Threads + Wait + Sync>(
     ensures trimmed { result.player.trimmed ≡ 0 }
     ensures able { SameAbility F.Fleet fleet.old fleet.new }
 {
-    let mut player = player;
-    let mut wires = Wires::new(alloc);
-    let stopped = run_through(&mut player, &lines, settings, &mut wires, fleet);
-    retire_all(wires, fleet);
-    Raced { player, stopped }
+    let Ok(clients) = clients_with_lines(alloc, &player) else {
+        return unraced(player);
+    };
+    let Ok(unnamed) = Unnamed::new(alloc) else {
+        return unraced(player);
+    };
+    run::<Brand, F, G, R>(
+        rt,
+        alloc,
+        unnamed,
+        player,
+        clients.as_slice(),
+        &lines,
+        settings,
+        fleet,
+        gate,
+    )
 }
 
-/// Sets the limits, lets each client enter its lines and go on, and ends the run.
-fn run_through<F: Fleet>(
-    player: &mut Player,
+/// Returns a race that couldn't begin, because memory was wanting.
+fn unraced(player: Player) -> Raced
+    ensures player { result.player ≡ player }
+    ensures stopped { result.stopped ≡ Err Halt.Memory }
+{
+    Raced {
+        player,
+        stopped: Err(Halt::Memory),
+    }
+}
+
+/// Returns the clients that have a kept line, in their order.
+fn clients_with_lines(alloc: Global, player: &Player) -> Result<Vec<u8>, AllocError> {
+    let mut clients = Vec::new(alloc);
+    for client in 0..=u8::MAX {
+        if player.has_kept(client) {
+            clients.push(client)?;
+        }
+    }
+    Ok(clients)
+}
+
+/// Races these clients under a name. `lines` are the lines of the script, newest first, for proofs alone.
+fn run<K: Race, F: Fleet, G: Gate, R: Threads + Wait + Sync>(
+    rt: &R,
+    alloc: Global,
+    unnamed: Unnamed,
+    player: Player,
+    clients: &[u8],
     lines: &Past<Line>,
     settings: VecDeque<Control>,
-    wires: &mut Wires<F::Wire>,
     fleet: &mut F,
-) -> Result<(), Halt>
-    requires ready { IsReady player.old }
-    requires running { has_ended player.old.past ≡ false }
-    requires at { IsAt (resting (reverse lines.now.items) player.old) player.old }
-    requires limits { list_all sets_limit settings.items ≡ true }
-    requires wires { WiresFit F.Wire.told (is_some (F.told fleet.old)) player.old.past wires.old }
-    ensures all { OnOk result ((run : Event) → Races run (reverse lines.now.items) player.old.past
-        → RacesAll run (reverse lines.now.items) player.new.past) }
-    ensures some { (run : Event) → Races run (reverse lines.now.items) player.old.past
-        → Races run (reverse lines.now.items) player.new.past }
-    ensures set { OnOk result (set_in player.new.past ≡ set_in player.old.past ++ settings.items) }
-    ensures some_set { SetsSome (set_in player.old.past ++ settings.items) player.new.past }
-    ensures over { OnOk result (IsOver player.new.past) }
-    ensures ended { OnOk result (has_ended player.new.past ≡ true) }
-    ensures quiet { OnOk result (is_quiet player.new.past ≡ true) }
-    ensures empty { OnOk result ((c : ℕ) → slot wires.new c ≡ None) }
-    ensures told { OnOk result (FleetTells F.Wire.told [] (F.told fleet.old)
-        (F.told fleet.new) player.old.past player.new.past wires.old wires.new) }
-    ensures legal { Legal player.new.past }
-    ensures full { result ≡ Err Halt.Full → most_events ≤ length player.new.past }
-    ensures trimmed { player.new.trimmed ≡ player.old.trimmed }
+    gate: &G,
+) -> Raced
+    requires cell { unnamed ≡ K.cell }
+    requires lines { K.lines ≡ reverse lines.now.items }
+    requires settings { K.settings ≡ settings_of K.lines }
+    requires made { K.made ≡ plans_first K.lines }
+    requires telling { K.telling ≡ is_some (F.told fleet.old) }
+    requires ready { IsReady player }
+    requires running { has_ended player.past ≡ false }
+    requires unopened { (c : ℕ) → journal player.past c ≡ [] }
+    requires whole { player.trimmed ≡ 0 }
+    requires at { IsAt (resting K.lines player) player }
+    requires races { Races K.run K.lines player.past }
+    requires limits { set_in player.past ++ settings.items ≡ K.settings }
+    ensures ends { EndsRace K.run K.lines result.stopped result.player }
+    ensures told { OnOk result.stopped
+        (RecordsOn K.made (F.told fleet.old) (F.told fleet.new) player.past result.player.past) }
     ensures able { SameAbility F.Fleet fleet.old fleet.new }
 {
-    set_limits(player, lines, settings)?;
-    carry_end(player, wires, fleet)
+    let (cell, keeper) = unnamed.named::<K>();
+    let (hall, own) = Hall::open(&cell, keeper, player, Wires::new(alloc), settings);
+    let shared = SharedHall::new(cell, hall);
+    let house = House {
+        own,
+        fleet,
+        cut: false,
+    };
+    let House { own, fleet, cut } = run_threads(rt, alloc, &shared, gate, clients, house);
+    end_race(rt, shared, own, cut, lines, fleet)
 }
