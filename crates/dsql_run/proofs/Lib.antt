@@ -4,5 +4,3 @@ pub mod Written
 pub mod Heading
 pub mod Summaries
 pub mod Trimming
-pub mod Raced
-pub mod TakingUp

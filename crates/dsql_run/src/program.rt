@@ -2,23 +2,20 @@ ghost use Rattle.std.specs.Prelude.{◌≡◌, ◌≢◌, ◌⊎◌, true, false
 ghost use Rattle.dsql_run_outcome.specs.driver.Streams.{HasRisen};
 ghost use Rattle.dsql_run_outcome.specs.script_generator.Script.{generated};
 ghost use Rattle.dsql_run_outcome.specs.script_show.Report.{with_text};
-ghost use Rattle.dsql_run_outcome.specs.script_generator.declared.words.Command.TheVariants.{Play, Race, Summarize};
+ghost use Rattle.dsql_run_outcome.specs.script_generator.declared.words.Command.TheVariants.{Play, Summarize};
 ghost use Rattle.dsql_run_outcome.specs.Notes.{is_status};
-ghost use Rattle.dsql_run_outcome.specs.Headline.{seen, seen_notes, PlaysAndTells, PlaysWhole, RacesAndTells, RacesWhole, RefusesWords};
-ghost use Rattle.dsql_run_outcome.specs.Summing.{GeneratesAndTells, IfGenerates, SumsUpAndTells, SumsUpWhole, runs_a_script};
+ghost use Rattle.dsql_run_outcome.specs.Headline.{seen, seen_notes, PlaysAndTells, PlaysWhole, RefusesWords};
+ghost use Rattle.dsql_run_outcome.specs.Summing.{GeneratesAndTells, IfGenerates, SumsUpAndTells, SumsUpWhole, plays_a_script};
 ghost use Rattle.dsql_run_outcome.specs.script_generator.Words.{command_of};
 
 use crate::generating::generate_lines;
 use crate::playing::{Played, play_keeping};
-use crate::racing::{RacedScript, race_keeping};
 use crate::summing::sum_up;
 use dsql_run_outcome::{
     Clock, Command, Fleet, Gate, Sink, Source, Txt, command_of, tell, tell_usage,
 };
 use std::alloc::Global;
 use std::mem;
-use std::sync::Wait;
-use std::thread::Threads;
 
 /// Plays a script from its first event to its end and returns a status. If something stopped it, notes what it
 /// was.
@@ -42,39 +39,14 @@ fn run<S: Source, K: Sink, E: Sink, F: Fleet>(
     tell(alloc, &stopped, notes)
 }
 
-/// Races a script from its first event to its end and returns a status. If something stopped it, notes what it was.
-fn run_race<S: Source, K: Sink, E: Sink, F: Fleet, C: Clock, G: Gate, R: Threads + Wait + Sync>(
-    rt: &R,
-    alloc: Global,
-    input: &mut S,
-    output: &mut K,
-    notes: &mut E,
-    fleet: &mut F,
-    clock: &mut C,
-    gate: &G,
-) -> u8
-    ensures raced { RacesAndTells
-        (seen S.Source K.Sink F.Fleet input.old output.old fleet.old)
-        (seen S.Source K.Sink F.Fleet input.new output.new fleet.new)
-        (seen_notes E.Sink notes.old) (seen_notes E.Sink notes.new) result }
-    ensures silent { result ≡ 0 → notes.new ≡ notes.old }
-{
-    let RacedScript { stopped, kept } = race_keeping(rt, alloc, input, output, fleet, clock, gate);
-
-    // The process frees all memory at once as it ends, as it does after a script that is played.
-    mem::forget(kept);
-    tell(alloc, &stopped, notes)
-}
-
 /// Runs the program and returns its exit status. `words` are the words it was called with, without its name.
 /// With `play` the program plays the script that the source gives, and writes the run's report to the output.
-/// `play --summary` writes the run's summary instead of the report. With `race` each client of the script goes on by
-/// itself, and the program writes the report at the run's end. `gen N`, with N from 1 to 10,000, writes N lines of a
-/// script.
+/// `play --summary` writes the run's summary instead of the report. `gen N`, with N from 1 to 10,000, writes N
+/// lines of a script.
 ///
 /// | status | when | what the notes get |
 /// |---|---|---|
-/// | 0 | the script was read to its end and played or raced, or was generated | nothing |
+/// | 0 | the script was read to its end and played, or was generated | nothing |
 /// | 2 | the words aren't accepted; nothing is read or written | `sqlrun: usage: sqlrun play [--summary] \| race \| gen N` |
 /// | 3 | the source failed | `sqlrun: read fault` |
 /// | 4 | the output failed, or the notes failed | `sqlrun: write fault` |
@@ -88,16 +60,15 @@ fn run_race<S: Source, K: Sink, E: Sink, F: Fleet, C: Clock, G: Gate, R: Threads
 /// run, the program writes no summary.
 ///
 /// The program doesn't free the memory that the run kept, because the process ends then. `play` frees it.
-pub fn sqlrun<S: Source, K: Sink, E: Sink, F: Fleet, C: Clock, G: Gate, R: Threads + Wait + Sync>(
-    rt: &R,
+pub fn sqlrun<S: Source, K: Sink, E: Sink, F: Fleet, C: Clock, G: Gate>(
     alloc: Global,
     words: &[Txt],
     input: &mut S,
     output: &mut K,
     notes: &mut E,
     fleet: &mut F,
-    clock: &mut C,
-    gate: &G,
+    _clock: &mut C,
+    _gate: &G,
 ) -> u8
     // If a script was played to its end, its report is the text of one legal history.
     ensures headline { command_of words.now ≡ Some Play → result ≡ 0 → PlaysWhole
@@ -107,17 +78,6 @@ pub fn sqlrun<S: Source, K: Sink, E: Sink, F: Fleet, C: Clock, G: Gate, R: Threa
 
     // At each status the report is the text of one legal history, or a beginning of that text.
     ensures ran { command_of words.now ≡ Some Play → PlaysAndTells
-        (seen S.Source K.Sink F.Fleet input.old output.old fleet.old)
-        (seen S.Source K.Sink F.Fleet input.new output.new fleet.new)
-        (seen_notes E.Sink notes.old) (seen_notes E.Sink notes.new) result }
-
-    // If a script was raced to its end, its report is the text of one legal history. At each status the report is the
-    // text of such a history, or a beginning of that text.
-    ensures race_headline { command_of words.now ≡ Some Race → result ≡ 0 → RacesWhole
-        (seen S.Source K.Sink F.Fleet input.old output.old fleet.old)
-        (seen S.Source K.Sink F.Fleet input.new output.new fleet.new)
-        (seen_notes E.Sink notes.old) (seen_notes E.Sink notes.new) }
-    ensures raced { command_of words.now ≡ Some Race → RacesAndTells
         (seen S.Source K.Sink F.Fleet input.old output.old fleet.old)
         (seen S.Source K.Sink F.Fleet input.new output.new fleet.new)
         (seen_notes E.Sink notes.old) (seen_notes E.Sink notes.new) result }
@@ -139,14 +99,14 @@ pub fn sqlrun<S: Source, K: Sink, E: Sink, F: Fleet, C: Clock, G: Gate, R: Threa
         ≡ with_text (K.written output.old) (generated n)) }
     ensures generated { IfGenerates (command_of words.now) (λ n. GeneratesAndTells n (seen_notes K.Sink output.old)
         (seen_notes K.Sink output.new) (seen_notes E.Sink notes.old) (seen_notes E.Sink notes.new) result) }
-    ensures unread { runs_a_script (command_of words.now) ≡ false → input.new ≡ input.old }
-    ensures unopened { runs_a_script (command_of words.now) ≡ false → fleet.new ≡ fleet.old }
+    ensures unread { plays_a_script (command_of words.now) ≡ false → input.new ≡ input.old }
+    ensures unopened { plays_a_script (command_of words.now) ≡ false → fleet.new ≡ fleet.old }
 
     // These say what a status means for the streams, whatever the streams record.
     ensures known { is_status result ≡ true }
     ensures accepted { is_some (command_of words.now) ≡ true → result ≢ 2 }
     ensures silent { is_some (command_of words.now) ≡ true → result ≡ 0 → notes.new ≡ notes.old }
-    ensures read_fault { runs_a_script (command_of words.now) ≡ true → result ≡ 3
+    ensures read_fault { plays_a_script (command_of words.now) ≡ true → result ≡ 3
         → HasRisen (S.faults input.old) (S.faults input.new) }
     ensures write_fault { is_some (command_of words.now) ≡ true → result ≡ 4
         → HasRisen (K.faults output.old) (K.faults output.new)
@@ -159,7 +119,6 @@ pub fn sqlrun<S: Source, K: Sink, E: Sink, F: Fleet, C: Clock, G: Gate, R: Threa
 {
     match command_of(words) {
         Some(Command::Play) => run(alloc, input, output, notes, fleet),
-        Some(Command::Race) => run_race(rt, alloc, input, output, notes, fleet, clock, gate),
         Some(Command::Summarize) => sum_up(alloc, input, output, notes, fleet),
         Some(Command::Generate(lines)) => generate_lines(alloc, lines, output, notes),
         None => tell_usage(notes),

@@ -2,7 +2,6 @@ pub use Rattle.dsql_script_source.proofs as script_source
 pub use Rattle.dsql_script_show.proofs as script_show
 pub use Rattle.dsql_run_wires.proofs as run_wires
 pub use Rattle.dsql_run_player.proofs as run_player
-pub use Rattle.dsql_hall.proofs as hall
 pub mod Following
 pub mod Saying
 pub mod Writing
@@ -12,4 +11,3 @@ pub mod Ending
 pub mod Asking
 pub mod Telling
 pub mod Summed
-pub mod Racing

@@ -169,7 +169,7 @@ first_stops stop first before reader left rest k asked skipped caps p w now lent
       lines = skipped;
       parts = blank (reverse skipped);
       counted = λ over. absurd (play_ends_none stop kind over);
-      plays = first_plays false stop before rest (saying asked skipped) kind (read_first first before reader left asked skipped body h.reads);
+      plays = first_plays stop before rest (saying asked skipped) kind (read_first first before reader left asked skipped body h.reads);
       read = λ is. absurd (cc is);
       follows = λ ran. follows;
       at = λ ran. begun_at caps skipped p h.silent at;

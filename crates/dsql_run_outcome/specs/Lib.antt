@@ -11,13 +11,10 @@ pub use Rattle.dsql_script_generator.specs as script_generator
 pub use Rattle.dsql_laws_steps.specs as laws_steps
 pub use Rattle.dsql_run_wires.specs as run_wires
 pub use Rattle.dsql_run_player.specs as run_player
-pub use Rattle.dsql_hall.specs as hall
 pub mod Followed
 pub mod Runs
 pub mod Notes
-pub mod Ways
 pub mod Headline
 pub mod Playing
-pub mod Racing
 pub mod Summing
 pub mod Lent

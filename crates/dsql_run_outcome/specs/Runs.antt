@@ -18,7 +18,7 @@ use Rattle.dsql_script_report.specs.Lines.{text_of}
 use Rattle.dsql_script_show.specs.Report.{with_text, ShowsFront, StopsBetween, Shows}
 use Rattle.dsql_script_show.specs.declared.showing.ShowFault.{ShowFault}
 use Rattle.dsql_script_show.specs.declared.showing.ShowFault.TheVariants as shows
-use Rattle.dsql_script_source.specs.Plays.{PlaysBy, saying}
+use Rattle.dsql_script_source.specs.Plays.{Plays, saying}
 use Rattle.dsql_script_source.specs.Script.{is_skip}
 use Rattle.dsql_script_source.specs.declared.stop.Stop.{Stop}
 use Rattle.dsql_script_source.specs.declared.stop.Stop.TheVariants.{Read, Write, Memory, Refused, Full}
@@ -30,11 +30,6 @@ use Rattle.dsql_run_outcome.specs.Followed.{FollowsAll, lines_of}
 abbrev pub stop_of_halt : Halt → Stop
 stop_of_halt halts.Memory = Memory
 stop_of_halt halts.Full = Full
-
--- Returns what stops a run by what stops its race, if anything does.
-abbrev pub stop_of : Result Unit Halt → Result Unit Stop
-stop_of (Ok done) = Ok tt
-stop_of (Err halt) = Err (stop_of_halt halt)
 
 abbrev pub stop_of_show : ShowFault → Stop
 stop_of_show shows.Failed = Write
@@ -129,13 +124,12 @@ abbrev pub CutAtLine : Option (List ℕ) → Event → List Part → Option (Lis
 CutAtLine w run parts now = CutInLast w run parts now ⊎ CutAtFirst w run parts now
 
 -- Holds if the sink failed as the end of the run was written. Everything before the end was written, and not
--- all of the end. The lines had come to an end, and the record says what the run had of them. The script is for a race
--- if the flag is true.
-pub record CutAtEnd (race : Bool) (before after : Option (List ℕ)) (asked : Option Caps) (lines : List Line)
+-- all of the end. The lines had come to an end, and the record says what was played of them.
+pub record CutAtEnd (before after : Option (List ℕ)) (asked : Option Caps) (lines : List Line)
     (source_failed : Bool) (w : Option (List ℕ)) (rest past : List Event) (now : Option (List ℕ)) : Type 0 where
   pub played : Result Unit Stop
   pub over : IsLinesEnd played
-  pub plays : PlaysBy race played before after (saying asked lines)
+  pub plays : Plays played before after (saying asked lines)
   pub read : played ≡ Ok tt → IfSome after (λ bytes. bytes ≡ [])
   pub caused : played ≡ Err Read → source_failed ≡ true
   pub written : StopsBetween w (text_of rest) (text_of past) now
@@ -147,7 +141,7 @@ pub record CutShort (before after : Option (List ℕ)) (asked : Option Caps) (li
     (now : Option (List ℕ)) : Type 0 where
   pub all : FollowsAll run lines past
   pub cut : CutAtLine w run all.played.parts now
-      ⊎ CutAtEnd false before after asked lines source_failed w (told run all.played.parts) past now
+      ⊎ CutAtEnd before after asked lines source_failed w (told run all.played.parts) past now
 
 -- What was written.
 

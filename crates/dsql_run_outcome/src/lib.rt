@@ -8,15 +8,12 @@ mod stop;
 
 pub use dsql_driver_stream::write_whole;
 pub use dsql_follows::Line;
-pub use dsql_hall::{Raced, race, set_limits};
-pub use dsql_history::{Clock, Control, Failed, Fleet, Gate, Memory, Past, Sink, Source, Txt};
-pub use dsql_run_player::{Halt, Player, Room, carry_end, carry_line};
-pub use dsql_run_wires::{KeptLine, Wires, retire_all};
+pub use dsql_history::{Clock, Failed, Fleet, Gate, Sink, Source, Txt};
+pub use dsql_run_player::{Player, Room, carry_end, carry_line};
+pub use dsql_run_wires::{Wires, retire_all};
 pub use dsql_script_generator::{Command, GenerateFault, command_of, generate};
 pub use dsql_script_reader::ScriptLine;
 pub use dsql_script_show::{ShowFault, Shown, show, summary_line, summary_of};
-pub use dsql_script_source::{
-    ReadScript, ScriptReader, Stop, line_as_played, read_head, read_script,
-};
+pub use dsql_script_source::{ScriptReader, Stop, line_as_played, read_head};
 pub use notes::{tell, tell_usage};
 pub use stop::{stop_of_halt, stop_of_show};

@@ -8,8 +8,6 @@ mod examples;
 #[cfg(test)]
 mod outcome;
 #[cfg(test)]
-mod races;
-#[cfg(test)]
 mod replayed;
 #[cfg(test)]
 mod runs;

@@ -5,8 +5,6 @@ use dsql_driver::{Fleet, ListClock, OpenGate, SliceSource, Source, VecSink};
 use dsql_run::sqlrun;
 use dsql_value::{Memory, Txt};
 use std::alloc::Global;
-use std::sync::Wait;
-use std::thread::Threads;
 
 /// The result of a run: its status, its notes and its report.
 #[derive(Drop)]
@@ -41,19 +39,17 @@ fn words_of(alloc: Global, words: &[&str]) -> Result<Vec<Txt>, Memory> {
 }
 
 /// Runs the program over these streams and this driver.
-pub(super) fn run_over<S: Source, F: Fleet, R: AllocGlobal + Threads + Wait + Sync>(
-    rt: &R,
+pub(super) fn run_over<S: Source, F: Fleet>(
+    alloc: Global,
     words: &[&str],
     input: &mut S,
     mut report: VecSink,
     mut notes: VecSink,
     fleet: &mut F,
 ) -> Result<Ran, Memory> {
-    let alloc = rt.alloc();
     let called = words_of(alloc, words)?;
     let mut clock = ListClock::new(Vec::new(alloc));
     let status = sqlrun(
-        rt,
         alloc,
         &called,
         input,
@@ -71,15 +67,10 @@ pub(super) fn run_over<S: Source, F: Fleet, R: AllocGlobal + Threads + Wait + Sy
 }
 
 /// Plays a script over streams that don't fail and a driver that answers as a report says.
-pub(super) fn play_as_told<R: AllocGlobal + Threads + Wait + Sync>(
-    rt: &R,
-    script: &str,
-    told: &str,
-) -> Result<Ran, Memory> {
-    let alloc = rt.alloc();
+pub(super) fn play_as_told(alloc: Global, script: &str, told: &str) -> Result<Ran, Memory> {
     let mut fleet = ToldFleet::new(alloc, told);
     let mut input = SliceSource::new(script.as_bytes(), 4096, &[]);
     let report = VecSink::new(alloc, 4096, Vec::new(alloc));
     let notes = VecSink::new(alloc, 4096, Vec::new(alloc));
-    run_over(rt, &["play"], &mut input, report, notes, &mut fleet)
+    run_over(alloc, &["play"], &mut input, report, notes, &mut fleet)
 }

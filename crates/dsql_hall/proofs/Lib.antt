@@ -1,4 +1,0 @@
-pub mod Setting
-pub mod Plans
-pub mod Along
-pub mod Finished
