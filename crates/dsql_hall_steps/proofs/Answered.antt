@@ -19,22 +19,22 @@ use Rattle.dsql_engine_laws.specs.wire.Journaled.{Journaled}
 use Rattle.dsql_engine_laws.proofs.laws.Tests.{other_number}
 use Rattle.dsql_engine_laws.proofs.Leave.{leave_opens_none, leave_sends, leave_shuts_none}
 use Rattle.dsql_wire.proofs.Answered.{makes}
-use Rattle.dsql_run_wires.specs.Made.{Made, aside_on}
-use Rattle.dsql_run_wires.specs.Seats.{seat}
-use Rattle.dsql_run_wires.specs.Told.{fleet_told}
-use Rattle.dsql_run_wires.specs.WiresFit.{FitsAt, HoldsWire, PlansAt, is_wired, slot}
-use Rattle.dsql_run_wires.proofs.Journals.{journal_here, same_or_not, still_wired, unheard}
-use Rattle.dsql_run_wires.proofs.Permits.{sent_wired}
-use Rattle.dsql_run_wires.proofs.Slots.{slot_elsewhere}
-use Rattle.dsql_run_player.specs.Acts.{SamePermitsBut}
-use Rattle.dsql_run_player.specs.Apart.{AnswersLeave}
-use Rattle.dsql_run_player.specs.Keeping.{SameCourse}
-use Rattle.dsql_run_player.specs.Playing.{IsReady, Playing}
-use Rattle.dsql_run_player.specs.Stepping.{HearsAnswer, IsAnswerTo, TakesStep}
-use Rattle.dsql_run_player.proofs.Answering.{HasLeave, entry_conn, leave_at}
-use Rattle.dsql_run_player.proofs.Grouped.{Grouped, hears_grouped}
-use Rattle.dsql_run_player.proofs.Hearing.{all_quiet, answer_grown, answer_told}
-use Rattle.dsql_run_player.proofs.Standing.{answer_taken, has_lines}
+use Rattle.dsql_player_wires.specs.Made.{Made, aside_on}
+use Rattle.dsql_player_wires.specs.Seats.{seat}
+use Rattle.dsql_player_wires.specs.Told.{fleet_told}
+use Rattle.dsql_player_wires.specs.WiresFit.{FitsAt, HoldsWire, PlansAt, is_wired, slot}
+use Rattle.dsql_player_wires.proofs.Journals.{journal_here, same_or_not, still_wired, unheard}
+use Rattle.dsql_player_wires.proofs.Permits.{sent_wired}
+use Rattle.dsql_player_wires.proofs.Slots.{slot_elsewhere}
+use Rattle.dsql_player.specs.Acts.{SamePermitsBut}
+use Rattle.dsql_player.specs.Apart.{AnswersLeave}
+use Rattle.dsql_player.specs.Keeping.{SameCourse}
+use Rattle.dsql_player.specs.Playing.{IsReady, Playing}
+use Rattle.dsql_player.specs.Stepping.{HearsAnswer, IsAnswerTo, TakesStep}
+use Rattle.dsql_player.proofs.Answering.{HasLeave, entry_conn, leave_at}
+use Rattle.dsql_player.proofs.Grouped.{Grouped, hears_grouped}
+use Rattle.dsql_player.proofs.Hearing.{all_quiet, answer_grown, answer_told}
+use Rattle.dsql_player.proofs.Standing.{answer_taken, has_lines}
 use Rattle.dsql_hall_bonds.specs.Work.{Work, find, without}
 use Rattle.dsql_hall_bonds.proofs.Finding.{find_without, find_without_other}
 use Rattle.dsql_hall_steps.specs.Errands.{Brought, IsBack}

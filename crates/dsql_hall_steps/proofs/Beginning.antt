@@ -17,10 +17,10 @@ use Rattle.dsql_engine_laws.specs.follows.Moments.{Moment, lines_of, met}
 use Rattle.dsql_engine_laws.specs.follows.Sentences.{may_enter}
 use Rattle.dsql_engine_laws.specs.follows.Turns.{can_move}
 use Rattle.dsql_engine_laws.proofs.laws_steps.Later.{step_is_group}
-use Rattle.dsql_run_wires.specs.Seats.{seat}
-use Rattle.dsql_run_player.specs.Playing.{IsAt, Playing, lines_kept}
-use Rattle.dsql_run_player.specs.Stepping.{IsTold, TakesStep}
-use Rattle.dsql_run_player.proofs.Taking.{nobody_sends}
+use Rattle.dsql_player_wires.specs.Seats.{seat}
+use Rattle.dsql_player.specs.Playing.{IsAt, Playing, lines_kept}
+use Rattle.dsql_player.specs.Stepping.{IsTold, TakesStep}
+use Rattle.dsql_player.proofs.Taking.{nobody_sends}
 use Rattle.dsql_hall_steps.specs.Racing.{Races, raced, resting}
 use Rattle.dsql_hall_steps.proofs.Ordered.{step_ordered}
 use Rattle.dsql_hall_steps.proofs.Entering.{races_on, rests_too}

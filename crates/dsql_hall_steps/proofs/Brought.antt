@@ -12,13 +12,13 @@ use Rattle.dsql_engine_laws.specs.history.Readers.Journals.{journal}
 use Rattle.dsql_engine_laws.specs.laws_steps.Groups.{most_events}
 use Rattle.dsql_engine_laws.specs.wire.Journaled.{Journaled}
 use Rattle.dsql_wire.proofs.Answered.{makes}
-use Rattle.dsql_run_wires.specs.Made.{Made, aside_on}
-use Rattle.dsql_run_wires.specs.WiresFit.{FitsAt, HoldsWire, OpensWire, RecordsAside, slot}
-use Rattle.dsql_run_wires.proofs.Journals.{opened_wired, shut_unwired}
-use Rattle.dsql_run_player.specs.declared.halt.Halt.{Halt}
-use Rattle.dsql_run_player.specs.declared.halt.Halt.TheVariants as halts
-use Rattle.dsql_run_player.specs.Playing.{Playing}
-use Rattle.dsql_run_player.proofs.Answering.{entry_conn}
+use Rattle.dsql_player_wires.specs.Made.{Made, aside_on}
+use Rattle.dsql_player_wires.specs.WiresFit.{FitsAt, HoldsWire, OpensWire, RecordsAside, slot}
+use Rattle.dsql_player_wires.proofs.Journals.{opened_wired, shut_unwired}
+use Rattle.dsql_player.specs.declared.halt.Halt.{Halt}
+use Rattle.dsql_player.specs.declared.halt.Halt.TheVariants as halts
+use Rattle.dsql_player.specs.Playing.{Playing}
+use Rattle.dsql_player.proofs.Answering.{entry_conn}
 use Rattle.dsql_hall_bonds.specs.Work.{Work, find, without}
 use Rattle.dsql_hall_steps.specs.Errands.{Brought, IsBack}
 use Rattle.dsql_hall_steps.specs.Halls.{InHall, IsAtHome, IsHall, Keeps, MayComeBack, Terms, house}

@@ -8,13 +8,13 @@ use Rattle.dsql_engine_laws.specs.history.Legal.{Legal}
 use Rattle.dsql_engine_laws.specs.history.Readers.Journals.{journal}
 use Rattle.dsql_engine_laws.specs.laws_steps.Groups.{most_events}
 use Rattle.dsql_engine_laws.specs.wire.Journaled.{Journaled}
-use Rattle.dsql_run_wires.specs.Made.{Made}
-use Rattle.dsql_run_wires.specs.WiresFit.{slot}
-use Rattle.dsql_run_wires.proofs.Journals.{same_or_not}
-use Rattle.dsql_run_wires.proofs.Slots.{set_default, slot_elsewhere}
-use Rattle.dsql_run_player.specs.declared.halt.Halt.{Halt}
-use Rattle.dsql_run_player.specs.declared.halt.Halt.TheVariants as halts
-use Rattle.dsql_run_player.specs.Playing.{Playing}
+use Rattle.dsql_player_wires.specs.Made.{Made}
+use Rattle.dsql_player_wires.specs.WiresFit.{slot}
+use Rattle.dsql_player_wires.proofs.Journals.{same_or_not}
+use Rattle.dsql_player_wires.proofs.Slots.{set_default, slot_elsewhere}
+use Rattle.dsql_player.specs.declared.halt.Halt.{Halt}
+use Rattle.dsql_player.specs.declared.halt.Halt.TheVariants as halts
+use Rattle.dsql_player.specs.Playing.{Playing}
 use Rattle.dsql_hall_bonds.specs.Work.{Work, find, without}
 use Rattle.dsql_hall_bonds.proofs.Finding.{find_here, find_other, find_without_other}
 use Rattle.dsql_hall_steps.specs.Halls.{GoesOn, HasHome, HouseIsOut, InHall, IsHall, IsOut, Keeps, MayComeBack, SlotFits, Terms, are_apart, house}

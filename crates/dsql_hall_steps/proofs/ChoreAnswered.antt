@@ -15,19 +15,19 @@ use Rattle.dsql_engine_laws.specs.follows.Moments.{Moment}
 use Rattle.dsql_engine_laws.specs.laws_steps.Groups.{after_heard}
 use Rattle.dsql_engine_laws.specs.wire.Journaled.{Journaled}
 use Rattle.dsql_engine_laws.proofs.laws.Tests.{other_number}
-use Rattle.dsql_run_wires.specs.Made.{Made, aside_on}
-use Rattle.dsql_run_wires.specs.Seats.{seat}
-use Rattle.dsql_run_wires.specs.Told.{fleet_told, with_heard}
-use Rattle.dsql_run_wires.specs.WiresFit.{slot}
-use Rattle.dsql_run_wires.proofs.Journals.{same_or_not}
-use Rattle.dsql_run_wires.proofs.Reading.{unheard_told}
-use Rattle.dsql_run_player.specs.Apart.{AnswersChore}
-use Rattle.dsql_run_player.specs.Keeping.{SameCourse}
-use Rattle.dsql_run_player.specs.Playing.{IsAt, IsReady, Playing}
-use Rattle.dsql_run_player.specs.Stepping.{IsChoreOn, TakesStep}
-use Rattle.dsql_run_player.proofs.Answering.{entry_conn}
-use Rattle.dsql_run_player.proofs.Grouped.{Grouped, hears_grouped}
-use Rattle.dsql_run_player.proofs.Hearing.{all_quiet, answer_grown}
+use Rattle.dsql_player_wires.specs.Made.{Made, aside_on}
+use Rattle.dsql_player_wires.specs.Seats.{seat}
+use Rattle.dsql_player_wires.specs.Told.{fleet_told, with_heard}
+use Rattle.dsql_player_wires.specs.WiresFit.{slot}
+use Rattle.dsql_player_wires.proofs.Journals.{same_or_not}
+use Rattle.dsql_player_wires.proofs.Reading.{unheard_told}
+use Rattle.dsql_player.specs.Apart.{AnswersChore}
+use Rattle.dsql_player.specs.Keeping.{SameCourse}
+use Rattle.dsql_player.specs.Playing.{IsAt, IsReady, Playing}
+use Rattle.dsql_player.specs.Stepping.{IsChoreOn, TakesStep}
+use Rattle.dsql_player.proofs.Answering.{entry_conn}
+use Rattle.dsql_player.proofs.Grouped.{Grouped, hears_grouped}
+use Rattle.dsql_player.proofs.Hearing.{all_quiet, answer_grown}
 use Rattle.dsql_hall_bonds.specs.Work.{Work, find, without}
 use Rattle.dsql_hall_bonds.proofs.Finding.{find_here, find_other, find_without, find_without_other}
 use Rattle.dsql_hall_steps.specs.Halls.{GoesOn, HasHome, InHall, IsAtHome, IsAway, IsHall, IsOfLayer, IsOut, MayComeBack, SlotFits, Terms, house}

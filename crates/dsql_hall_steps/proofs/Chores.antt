@@ -23,13 +23,13 @@ use Rattle.dsql_engine_laws.specs.Chores.{MayBeMade}
 use Rattle.dsql_engine_laws.proofs.Made.{chore_made}
 use Rattle.dsql_engine_laws.proofs.Placed.{told_by_kind}
 use Rattle.dsql_engine_laws.proofs.Tidied.{tidied_after_end}
-use Rattle.dsql_run_wires.specs.WiresFit.{FitsAt, HoldsWire, slot}
-use Rattle.dsql_run_wires.proofs.Journals.{same_or_not, shut_only}
-use Rattle.dsql_run_wires.proofs.Permits.{sent_wired}
-use Rattle.dsql_run_wires.proofs.Slots.{set_default}
-use Rattle.dsql_run_wires.proofs.Wiring.{holds_here}
-use Rattle.dsql_run_player.specs.Playing.{Playing}
-use Rattle.dsql_run_player.proofs.Answering.{HasLeave, leave_at}
+use Rattle.dsql_player_wires.specs.WiresFit.{FitsAt, HoldsWire, slot}
+use Rattle.dsql_player_wires.proofs.Journals.{same_or_not, shut_only}
+use Rattle.dsql_player_wires.proofs.Permits.{sent_wired}
+use Rattle.dsql_player_wires.proofs.Slots.{set_default}
+use Rattle.dsql_player_wires.proofs.Wiring.{holds_here}
+use Rattle.dsql_player.specs.Playing.{Playing}
+use Rattle.dsql_player.proofs.Answering.{HasLeave, leave_at}
 use Rattle.dsql_hall_bonds.specs.Work.{Work, find}
 use Rattle.dsql_hall_steps.specs.Errands.{IsErrand}
 use Rattle.dsql_hall_steps.specs.Halls.{GoesOn, InHall, IsAtHome, IsHall, IsOfClient, IsOfLayer, IsOut, SlotFits, Terms, house}

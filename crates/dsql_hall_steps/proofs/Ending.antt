@@ -9,8 +9,8 @@ use Rattle.dsql_engine_laws.specs.follows.declared.line.Line.{Line}
 use Rattle.dsql_engine_laws.specs.follows.Moments.{Moment, after_events, lines_of, walk}
 use Rattle.dsql_engine_laws.specs.follows.Turns.{clients}
 use Rattle.dsql_engine_laws.specs.follows.Follows.{is_done, leaves_nothing}
-use Rattle.dsql_run_player.specs.Carried.{CarriesEnd, StopsInEnd}
-use Rattle.dsql_run_player.specs.Playing.{Playing}
+use Rattle.dsql_player.specs.Carried.{CarriesEnd, StopsInEnd}
+use Rattle.dsql_player.specs.Playing.{Playing}
 use Rattle.dsql_hall_steps.specs.Racing.{Races, RacesAll, raced, resting}
 use Rattle.dsql_hall_steps.proofs.Ordered.{lines_after, past_after}
 use Rattle.dsql_hall_steps.proofs.Entering.{races_on}

@@ -6,11 +6,11 @@ use Rattle.dsql_engine_laws.specs.history.declared.event.Event.{Event}
 use Rattle.dsql_engine_laws.specs.history.Readers.Course.{has_ended}
 use Rattle.dsql_engine_laws.specs.history.Readers.Journals.{journal}
 use Rattle.dsql_engine_laws.specs.wire.Journaled.{Journaled}
-use Rattle.dsql_run_wires.specs.Made.{aside_on}
-use Rattle.dsql_run_wires.specs.Told.{fleet_told}
-use Rattle.dsql_run_wires.specs.WiresFit.{FitsAt, PlansFit, RecordsAside, WiresFit, slot}
-use Rattle.dsql_run_wires.proofs.Journals.{same_or_not}
-use Rattle.dsql_run_player.specs.Playing.{IsAt, IsReady, Playing}
+use Rattle.dsql_player_wires.specs.Made.{aside_on}
+use Rattle.dsql_player_wires.specs.Told.{fleet_told}
+use Rattle.dsql_player_wires.specs.WiresFit.{FitsAt, PlansFit, RecordsAside, WiresFit, slot}
+use Rattle.dsql_player_wires.proofs.Journals.{same_or_not}
+use Rattle.dsql_player.specs.Playing.{IsAt, IsReady, Playing}
 use Rattle.dsql_hall_bonds.specs.Work.{Work, find}
 use Rattle.dsql_hall_bonds.proofs.Finding.{find_here, find_other}
 use Rattle.dsql_hall_steps.specs.Halls.{GoesOn, InHall, IsAtHome, IsAway, IsHall, IsOut, Keeps, SlotFits, Terms, house}

@@ -14,9 +14,9 @@ use Rattle.dsql_engine_laws.specs.follows.Sentences.{enters_in_order}
 use Rattle.dsql_engine_laws.specs.follows.Turns.{can_move}
 use Rattle.dsql_engine_laws.specs.laws_steps.Steps.{stepped}
 use Rattle.dsql_engine_laws.proofs.laws_steps.Later.{step_is_group}
-use Rattle.dsql_run_player.specs.Playing.{IsAt, Playing}
-use Rattle.dsql_run_player.specs.Stepping.{TakesStep, Wakes}
-use Rattle.dsql_run_player.proofs.Taking.{nobody_sends}
+use Rattle.dsql_player.specs.Playing.{IsAt, Playing}
+use Rattle.dsql_player.specs.Stepping.{TakesStep, Wakes}
+use Rattle.dsql_player.proofs.Taking.{nobody_sends}
 use Rattle.dsql_hall_steps.specs.Racing.{Races, raced, resting}
 use Rattle.dsql_hall_steps.proofs.Ordered.{ordered_then, step_ordered}
 

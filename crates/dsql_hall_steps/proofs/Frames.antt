@@ -24,13 +24,13 @@ use Rattle.dsql_engine_laws.specs.Chores.{hears_on}
 use Rattle.dsql_engine_laws.proofs.laws.Tests.{both}
 use Rattle.dsql_engine_laws.proofs.laws_ends.Whose.{busy_unfinished, kept_client, unfinished_entered}
 use Rattle.dsql_engine_laws.proofs.StillDue.{due_stays, journal_stays, unlent_stays}
-use Rattle.dsql_run_wires.specs.Made.{Made, aside_on}
-use Rattle.dsql_run_wires.specs.Seats.{seat}
-use Rattle.dsql_run_wires.specs.Told.{fleet_told}
-use Rattle.dsql_run_wires.specs.WiresFit.{FitsAt, PlansAt}
-use Rattle.dsql_run_player.specs.Playing.{IsReady, Playing}
-use Rattle.dsql_run_player.proofs.Answering.{HasLeave, leave_at}
-use Rattle.dsql_run_player.proofs.Grouped.{Grouped}
+use Rattle.dsql_player_wires.specs.Made.{Made, aside_on}
+use Rattle.dsql_player_wires.specs.Seats.{seat}
+use Rattle.dsql_player_wires.specs.Told.{fleet_told}
+use Rattle.dsql_player_wires.specs.WiresFit.{FitsAt, PlansAt}
+use Rattle.dsql_player.specs.Playing.{IsReady, Playing}
+use Rattle.dsql_player.proofs.Answering.{HasLeave, leave_at}
+use Rattle.dsql_player.proofs.Grouped.{Grouped}
 use Rattle.dsql_hall_bonds.specs.Work.{Work}
 use Rattle.dsql_hall_steps.specs.Halls.{HouseIsOut, IsAtHome, IsAway, IsOfClient, IsOfLayer, IsOut, SlotFits, house}
 use Rattle.dsql_hall_steps.specs.Limits.{set_in}

@@ -5,10 +5,10 @@ use Rattle.dsql_engine_laws.specs.journal.declared.entry.Permit.{Permit}
 use Rattle.dsql_engine_laws.specs.history.declared.event.Control.{Control}
 use Rattle.dsql_engine_laws.specs.history.Rules.House.{chore_due}
 use Rattle.dsql_engine_laws.specs.wire.Journaled.{Journaled}
-use Rattle.dsql_run_wires.specs.WiresFit.{slot}
-use Rattle.dsql_run_player.specs.declared.halt.Halt.TheVariants as halts
-use Rattle.dsql_run_player.specs.Playing.{Playing}
-use Rattle.dsql_run_player.specs.Stepping.{IsNext, goes}
+use Rattle.dsql_player_wires.specs.WiresFit.{slot}
+use Rattle.dsql_player.specs.declared.halt.Halt.TheVariants as halts
+use Rattle.dsql_player.specs.Playing.{Playing}
+use Rattle.dsql_player.specs.Stepping.{IsNext, goes}
 use Rattle.dsql_hall_bonds.specs.Work.{Work}
 use Rattle.dsql_hall_steps.specs.Halls.{InHall, IsHall, MayComeBack, Terms}
 use Rattle.dsql_hall_steps.specs.House.{ComesFirst}

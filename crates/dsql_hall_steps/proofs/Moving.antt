@@ -13,18 +13,18 @@ use Rattle.dsql_engine_laws.specs.laws_steps.Groups.{most_events}
 use Rattle.dsql_engine_laws.specs.Chores.{hears_on}
 use Rattle.dsql_engine_laws.proofs.laws_steps.Later.{step_is_group}
 use Rattle.dsql_engine_laws.proofs.laws_work.Rows.{same_or_not}
-use Rattle.dsql_run_wires.specs.Made.{Made}
-use Rattle.dsql_run_wires.specs.Seats.{Seat, seat}
-use Rattle.dsql_run_wires.specs.Told.{fleet_told}
-use Rattle.dsql_run_wires.specs.WiresFit.{slot}
-use Rattle.dsql_run_player.specs.Acts.{SamePermitsBut}
-use Rattle.dsql_run_player.specs.Carried.{HearsNothing}
-use Rattle.dsql_run_player.specs.declared.halt.Halt.TheVariants as halts
-use Rattle.dsql_run_player.specs.Keeping.{SameCourse}
-use Rattle.dsql_run_player.specs.Playing.{FitsCall, IsAt, IsReady, Playing}
-use Rattle.dsql_run_player.specs.Stepping.{IsEntryOf, IsOfItself, TakesStep, Wakes}
-use Rattle.dsql_run_player.proofs.Answering.{leave_at}
-use Rattle.dsql_run_player.proofs.Grouped.{Grouped}
+use Rattle.dsql_player_wires.specs.Made.{Made}
+use Rattle.dsql_player_wires.specs.Seats.{Seat, seat}
+use Rattle.dsql_player_wires.specs.Told.{fleet_told}
+use Rattle.dsql_player_wires.specs.WiresFit.{slot}
+use Rattle.dsql_player.specs.Acts.{SamePermitsBut}
+use Rattle.dsql_player.specs.Carried.{HearsNothing}
+use Rattle.dsql_player.specs.declared.halt.Halt.TheVariants as halts
+use Rattle.dsql_player.specs.Keeping.{SameCourse}
+use Rattle.dsql_player.specs.Playing.{FitsCall, IsAt, IsReady, Playing}
+use Rattle.dsql_player.specs.Stepping.{IsEntryOf, IsOfItself, TakesStep, Wakes}
+use Rattle.dsql_player.proofs.Answering.{leave_at}
+use Rattle.dsql_player.proofs.Grouped.{Grouped}
 use Rattle.dsql_hall_bonds.specs.Work.{Work, find}
 use Rattle.dsql_hall_steps.specs.Halls.{GoesOn, InHall, IsHall, Keeps, Terms}
 use Rattle.dsql_hall_steps.specs.Limits.{set_in}

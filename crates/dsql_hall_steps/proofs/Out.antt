@@ -2,7 +2,7 @@
 -- goes through the list.
 use Rattle.std.proofs.Common.{◌≡◌, ◌≢◌, ◌⊎◌, inl, inr, ◌==◌, ◌+◌, ◌<◌, ◌≤◌, ◌&&◌, ℕ, zero, suc, List, [], ◌∷◌, Option, Some, None, cond, Bool, true, false, length, refl, sym, ap, subst, ◌∙◌, arith, eqb-true}
 use Rattle.std.specs.Prelude.{is_none, is_some}
-use Rattle.dsql_run_wires.proofs.Journals.{same_or_not}
+use Rattle.dsql_player_wires.proofs.Journals.{same_or_not}
 use Rattle.dsql_hall_bonds.specs.Work.{Work, find, without}
 use Rattle.dsql_hall_bonds.proofs.Finding.{find_here, find_other, find_without, find_without_other}
 use Rattle.dsql_hall_steps.specs.Halls.{are_apart}

@@ -13,13 +13,13 @@ use Rattle.dsql_engine_laws.specs.history.Readers.Journals.{journal}
 use Rattle.dsql_engine_laws.specs.wire.Journaled.{Journaled}
 use Rattle.dsql_engine_laws.specs.wire.Told.{TellsOf}
 use Rattle.dsql_wire.proofs.Answered.{makes}
-use Rattle.dsql_run_wires.specs.Made.{Made, aside_on}
-use Rattle.dsql_run_wires.specs.Told.{fleet_told, tells_of, told_then, with_heard, with_told}
-use Rattle.dsql_run_wires.specs.WiresFit.{RecordsAside}
-use Rattle.dsql_run_wires.proofs.Journals.{shut_only}
-use Rattle.dsql_run_wires.proofs.Reading.{told_whole}
-use Rattle.dsql_run_wires.proofs.Telling.{HasTold, gives_none}
-use Rattle.dsql_run_player.proofs.Answering.{entry_conn}
+use Rattle.dsql_player_wires.specs.Made.{Made, aside_on}
+use Rattle.dsql_player_wires.specs.Told.{fleet_told, tells_of, told_then, with_heard, with_told}
+use Rattle.dsql_player_wires.specs.WiresFit.{RecordsAside}
+use Rattle.dsql_player_wires.proofs.Journals.{shut_only}
+use Rattle.dsql_player_wires.proofs.Reading.{told_whole}
+use Rattle.dsql_player_wires.proofs.Telling.{HasTold, gives_none}
+use Rattle.dsql_player.proofs.Answering.{entry_conn}
 use Rattle.dsql_hall_steps.specs.Errands.{Brought, IsBack}
 use Rattle.dsql_hall_steps.specs.House.{IsShutting, TellsConnect, TellsShut}
 use Rattle.dsql_hall_steps.specs.Openings.{Found, IsFound}

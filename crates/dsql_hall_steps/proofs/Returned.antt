@@ -5,13 +5,13 @@ use Rattle.dsql_engine_laws.specs.driver.Wires.{WireTold}
 use Rattle.dsql_engine_laws.specs.journal.declared.entry.Entry.{Entry}
 use Rattle.dsql_engine_laws.specs.laws_steps.Groups.{most_events}
 use Rattle.dsql_engine_laws.specs.wire.Journaled.{Journaled}
-use Rattle.dsql_run_wires.specs.Made.{Made}
-use Rattle.dsql_run_wires.specs.WiresFit.{slot}
-use Rattle.dsql_run_player.specs.declared.halt.Halt.{Halt}
-use Rattle.dsql_run_player.specs.declared.halt.Halt.TheVariants as halts
-use Rattle.dsql_run_player.specs.Apart.{AnswersLeave}
-use Rattle.dsql_run_player.specs.Playing.{Playing}
-use Rattle.dsql_run_player.proofs.Answering.{entry_conn}
+use Rattle.dsql_player_wires.specs.Made.{Made}
+use Rattle.dsql_player_wires.specs.WiresFit.{slot}
+use Rattle.dsql_player.specs.declared.halt.Halt.{Halt}
+use Rattle.dsql_player.specs.declared.halt.Halt.TheVariants as halts
+use Rattle.dsql_player.specs.Apart.{AnswersLeave}
+use Rattle.dsql_player.specs.Playing.{Playing}
+use Rattle.dsql_player.proofs.Answering.{entry_conn}
 use Rattle.dsql_hall_bonds.specs.Work.{Work, find, without}
 use Rattle.dsql_hall_steps.specs.Errands.{Brought, IsBack, IsUnheard, IsWorkOf, Sent}
 use Rattle.dsql_hall_steps.specs.Halls.{HasHome, InHall, IsHall, Keeps, MayComeBack, Terms, house}

@@ -13,14 +13,14 @@ use Rattle.dsql_engine_laws.specs.history.Readers.Journals.{journal}
 use Rattle.dsql_engine_laws.specs.wire.Journaled.{Journaled, MayBeSent}
 use Rattle.dsql_engine_laws.proofs.laws_ends.Whose.{busy_own}
 use Rattle.dsql_engine_laws.proofs.Leave.{leave_sends}
-use Rattle.dsql_run_wires.specs.Made.{Made, aside_on}
-use Rattle.dsql_run_wires.specs.Seats.{seat}
-use Rattle.dsql_run_wires.specs.WiresFit.{Hears, HoldsWire, SameHeard, Wants, RecordsAside, is_wired, slot}
-use Rattle.dsql_run_wires.proofs.Plans.{heard_plans}
-use Rattle.dsql_run_wires.proofs.Slots.{set_default}
-use Rattle.dsql_run_wires.proofs.Wiring.{some_wired, still_some}
-use Rattle.dsql_run_player.specs.Playing.{Playing}
-use Rattle.dsql_run_player.proofs.Answering.{HasLeave, leave_at}
+use Rattle.dsql_player_wires.specs.Made.{Made, aside_on}
+use Rattle.dsql_player_wires.specs.Seats.{seat}
+use Rattle.dsql_player_wires.specs.WiresFit.{Hears, HoldsWire, SameHeard, Wants, RecordsAside, is_wired, slot}
+use Rattle.dsql_player_wires.proofs.Plans.{heard_plans}
+use Rattle.dsql_player_wires.proofs.Slots.{set_default}
+use Rattle.dsql_player_wires.proofs.Wiring.{some_wired, still_some}
+use Rattle.dsql_player.specs.Playing.{Playing}
+use Rattle.dsql_player.proofs.Answering.{HasLeave, leave_at}
 use Rattle.dsql_hall_bonds.specs.Work.{Work, find}
 use Rattle.dsql_hall_steps.specs.Errands.{Brought, IsBack, IsErrand, IsUnheard, IsWireFor, Sent}
 use Rattle.dsql_hall_steps.specs.Halls.{GoesOn, InHall, IsAtHome, IsHall, IsOut, SlotFits, Terms, house}

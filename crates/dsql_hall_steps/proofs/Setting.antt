@@ -10,11 +10,11 @@ use Rattle.dsql_engine_laws.specs.history.Readers.Controls.{taken, told, told_af
 use Rattle.dsql_engine_laws.specs.follows.Moments.{Moment}
 use Rattle.dsql_engine_laws.specs.Chores.{hears_on}
 use Rattle.dsql_engine_laws.proofs.laws.Tests.{both}
-use Rattle.dsql_run_player.specs.Acts.{SamePermits}
-use Rattle.dsql_run_player.specs.Carried.{HearsNothing}
-use Rattle.dsql_run_player.specs.Keeping.{SameCourse}
-use Rattle.dsql_run_player.specs.Playing.{IsAt, IsReady, Playing}
-use Rattle.dsql_run_player.specs.Stepping.{IsTold, TakesStep}
+use Rattle.dsql_player.specs.Acts.{SamePermits}
+use Rattle.dsql_player.specs.Carried.{HearsNothing}
+use Rattle.dsql_player.specs.Keeping.{SameCourse}
+use Rattle.dsql_player.specs.Playing.{IsAt, IsReady, Playing}
+use Rattle.dsql_player.specs.Stepping.{IsTold, TakesStep}
 use Rattle.dsql_hall_steps.specs.Halls.{GoesOn, InHall, IsHall, Keeps, Terms}
 use Rattle.dsql_hall_steps.specs.House.{ComesFirst}
 use Rattle.dsql_hall_steps.specs.Limits.{set_in, sets_limit}

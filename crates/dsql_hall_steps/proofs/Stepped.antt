@@ -1,7 +1,7 @@
 -- What a client's thread does next, as the hall lets it take a step. The argument compares the player before and after.
 use Rattle.std.proofs.Common.{◌≡◌, ◌<◌, ◌⊎◌, inl, inr, ℕ, Bool, true, false, length, Option, Some, None, is_some, refl, ap, sym, subst, ◌∙◌}
-use Rattle.dsql_run_wires.specs.Seats.{seat}
-use Rattle.dsql_run_player.specs.Playing.{Playing}
+use Rattle.dsql_player_wires.specs.Seats.{seat}
+use Rattle.dsql_player.specs.Playing.{Playing}
 use Rattle.dsql_hall_steps.specs.Halls.{InHall}
 use Rattle.dsql_hall_steps.specs.Steps.{StepsOnce}
 

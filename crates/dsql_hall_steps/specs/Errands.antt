@@ -7,8 +7,8 @@ use Rattle.dsql_engine_laws.specs.tenure.Judged.{answered}
 use Rattle.dsql_engine_laws.specs.history.Readers.Clients.{client_of}
 use Rattle.dsql_engine_laws.specs.history.Readers.Journals.{journal}
 use Rattle.dsql_engine_laws.specs.wire.Journaled.{Journaled, MayBeSent}
-use Rattle.dsql_run_wires.specs.Made.{Made, aside_on}
-use Rattle.dsql_run_wires.specs.WiresFit.{RecordsAside}
+use Rattle.dsql_player_wires.specs.Made.{Made, aside_on}
+use Rattle.dsql_player_wires.specs.WiresFit.{RecordsAside}
 use Rattle.dsql_hall_bonds.specs.Work.{Work}
 
 -- An errand: the work that is out, the client whose call makes the driver call, and the wire.

@@ -14,13 +14,13 @@ use Rattle.dsql_engine_laws.specs.follows.declared.line.Line.{Line}
 use Rattle.dsql_engine_laws.specs.laws_steps.Groups.{most_events}
 use Rattle.dsql_engine_laws.specs.going.Permits.{chore_permit}
 use Rattle.dsql_engine_laws.specs.wire.Journaled.{Journaled}
-use Rattle.dsql_run_wires.specs.Made.{Made, aside_on}
-use Rattle.dsql_run_wires.specs.Seats.{seat}
-use Rattle.dsql_run_wires.specs.Told.{fleet_told}
-use Rattle.dsql_run_wires.specs.WiresFit.{FitsAt, PlansAt, slot}
-use Rattle.dsql_run_player.specs.declared.halt.Halt.{Halt}
-use Rattle.dsql_run_player.specs.declared.halt.Halt.TheVariants as halts
-use Rattle.dsql_run_player.specs.Playing.{IsAt, IsReady, Playing}
+use Rattle.dsql_player_wires.specs.Made.{Made, aside_on}
+use Rattle.dsql_player_wires.specs.Seats.{seat}
+use Rattle.dsql_player_wires.specs.Told.{fleet_told}
+use Rattle.dsql_player_wires.specs.WiresFit.{FitsAt, PlansAt, slot}
+use Rattle.dsql_player.specs.declared.halt.Halt.{Halt}
+use Rattle.dsql_player.specs.declared.halt.Halt.TheVariants as halts
+use Rattle.dsql_player.specs.Playing.{IsAt, IsReady, Playing}
 use Rattle.dsql_hall_bonds.specs.Work.{Work, find}
 use Rattle.dsql_hall_steps.specs.Limits.{set_in, sets_limit}
 use Rattle.dsql_hall_steps.specs.Racing.{Races, resting}

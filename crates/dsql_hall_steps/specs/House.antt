@@ -9,10 +9,10 @@ use Rattle.dsql_engine_laws.specs.history.Readers.Course.{has_ended}
 use Rattle.dsql_engine_laws.specs.history.Readers.Journals.{journal}
 use Rattle.dsql_engine_laws.specs.wire.Journaled.{Journaled}
 use Rattle.dsql_engine_laws.specs.wire.Told.{TellsOf}
-use Rattle.dsql_run_wires.specs.Made.{Made, aside_on, no_aside}
-use Rattle.dsql_run_wires.specs.Told.{fleet_told, with_told}
-use Rattle.dsql_run_wires.specs.WiresFit.{PlansFit, WiresFit}
-use Rattle.dsql_run_player.specs.Playing.{IsAt, IsReady, Playing}
+use Rattle.dsql_player_wires.specs.Made.{Made, aside_on, no_aside}
+use Rattle.dsql_player_wires.specs.Told.{fleet_told, with_told}
+use Rattle.dsql_player_wires.specs.WiresFit.{PlansFit, WiresFit}
+use Rattle.dsql_player.specs.Playing.{IsAt, IsReady, Playing}
 use Rattle.dsql_hall_bonds.specs.Work.{Work}
 use Rattle.dsql_hall_bonds.specs.Unpicked.{no_permit}
 use Rattle.dsql_hall_steps.specs.Halls.{Terms, house}

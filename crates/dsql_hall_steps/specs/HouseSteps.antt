@@ -2,7 +2,7 @@
 use Rattle.std.specs.Prelude.{ℕ, ◌≡◌, ◌⊎◌, ◌∷◌, true, false, List, [], None, Some, is_some}
 use Rattle.dsql_engine_laws.specs.history.declared.event.Control.{Control}
 use Rattle.dsql_engine_laws.specs.history.Rules.House.{chore_due}
-use Rattle.dsql_run_player.specs.Stepping.{goes}
+use Rattle.dsql_player.specs.Stepping.{goes}
 use Rattle.dsql_hall_bonds.specs.Work.{Work}
 use Rattle.dsql_hall_steps.specs.declared.chore.Chore.{Chore}
 use Rattle.dsql_hall_steps.specs.declared.chore.Chore.TheVariants.{Again, Connect, Over, Shut, Wait}

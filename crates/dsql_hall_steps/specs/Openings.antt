@@ -6,9 +6,9 @@ use Rattle.dsql_engine_laws.specs.journal.declared.entry.Entry.{Entry}
 use Rattle.dsql_engine_laws.specs.history.Readers.Journals.{journal}
 use Rattle.dsql_engine_laws.specs.wire.Journaled.{Journaled}
 use Rattle.dsql_engine_laws.specs.wire.Opening.{opens}
-use Rattle.dsql_run_wires.specs.Asked.{Answers}
-use Rattle.dsql_run_wires.specs.Made.{Made, aside_on, no_aside}
-use Rattle.dsql_run_wires.specs.WiresFit.{OpensWire, RecordsAside}
+use Rattle.dsql_player_wires.specs.Asked.{Answers}
+use Rattle.dsql_player_wires.specs.Made.{Made, aside_on, no_aside}
+use Rattle.dsql_player_wires.specs.WiresFit.{OpensWire, RecordsAside}
 use Rattle.dsql_hall_bonds.specs.Work.{Work}
 use Rattle.dsql_hall_steps.specs.Halls.{house}
 

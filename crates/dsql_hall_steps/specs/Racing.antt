@@ -6,7 +6,7 @@ use Rattle.dsql_engine_laws.specs.follows.declared.line.Line.{Line}
 use Rattle.dsql_engine_laws.specs.follows.Moments.{Moment}
 use Rattle.dsql_engine_laws.specs.follows.Sentences.{enters_in_order}
 use Rattle.dsql_engine_laws.specs.follows.Follows.{leaves_nothing}
-use Rattle.dsql_run_player.specs.Playing.{Playing}
+use Rattle.dsql_player.specs.Playing.{Playing}
 
 -- Returns the moment of a race at which its run has just begun. The lines, oldest first, were all read, and no call is
 -- held.

@@ -2,7 +2,7 @@
 use Rattle.std.specs.Prelude.{ℕ, ◌≡◌, ◌≢◌, ◌<◌, ◌⊎◌, ◌∷◌, true, false, length, None, Some, is_some}
 use Rattle.dsql_engine_laws.specs.journal.Readers.{is_empty}
 use Rattle.dsql_engine_laws.specs.history.Readers.Calls.{is_busy}
-use Rattle.dsql_run_wires.specs.Seats.{seat}
+use Rattle.dsql_player_wires.specs.Seats.{seat}
 use Rattle.dsql_hall_steps.specs.declared.step.Step.{Step}
 use Rattle.dsql_hall_steps.specs.declared.step.Step.TheVariants.{Again, Go, Over, Wait}
 use Rattle.dsql_hall_steps.specs.Errands.{Sent}

@@ -4,7 +4,7 @@ ghost use Rattle.dsql_engine_laws.specs.journal.Readers.{is_empty};
 ghost use Rattle.dsql_engine_laws.specs.history.Readers.Calls.{is_busy};
 ghost use Rattle.dsql_engine_laws.specs.history.Readers.Clients.{call_of};
 ghost use Rattle.dsql_engine_laws.specs.laws_ends.Over.{may_move};
-ghost use Rattle.dsql_run_wires.specs.Seats.{seat};
+ghost use Rattle.dsql_player_wires.specs.Seats.{seat};
 ghost use Rattle.dsql_hall_bonds.specs.Work.{find};
 ghost use Rattle.dsql_hall_steps.specs.Steps.{DoesNext};
 
@@ -14,7 +14,7 @@ use crate::race::Race;
 use crate::step::Step;
 use dsql_engine_laws::{Permit, Wire};
 use dsql_hall_bonds::{Bond, Cell, Keeper, WorkName};
-use dsql_run_player::Player;
+use dsql_player::Player;
 use std::marker::Brand;
 
 /// Returns the bond of the driver call with this permit, which is out from then on.

@@ -3,8 +3,8 @@ ghost use Rattle.std.specs.Prelude.{◌≡◌, ◌≤◌, ◌∷◌, [], None, S
 ghost use Rattle.dsql_engine_laws.specs.history.Readers.Course.{has_ended};
 ghost use Rattle.dsql_engine_laws.specs.history.Readers.Journals.{journal};
 ghost use Rattle.dsql_engine_laws.specs.laws_steps.Groups.{most_events};
-ghost use Rattle.dsql_run_wires.specs.WiresFit.{PlansFit, WiresFit};
-ghost use Rattle.dsql_run_player.specs.Playing.{IsAt, IsReady};
+ghost use Rattle.dsql_player_wires.specs.WiresFit.{PlansFit, WiresFit};
+ghost use Rattle.dsql_player.specs.Playing.{IsAt, IsReady};
 ghost use Rattle.dsql_hall_steps.specs.Halls.{Keeps, house};
 ghost use Rattle.dsql_hall_steps.specs.House.{IsClosed, IsOwn, own_work};
 ghost use Rattle.dsql_hall_steps.specs.Racing.{resting};
@@ -13,8 +13,8 @@ use crate::hall::Hall;
 use crate::race::Race;
 use dsql_engine_laws::{Control, Wire};
 use dsql_hall_bonds::{Bond, Cell, Keeper, WorkName};
-use dsql_run_player::{Halt, Player};
-use dsql_run_wires::Wires;
+use dsql_player::{Halt, Player};
+use dsql_player_wires::Wires;
 use std::collections::VecDeque;
 use std::marker::Brand;
 

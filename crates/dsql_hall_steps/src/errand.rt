@@ -4,7 +4,7 @@ ghost use Rattle.std.specs.Prelude.{◌≡◌, IfErr, IfOk};
 use crate::race::Race;
 use dsql_engine_laws::{Heard, Permit, Wire};
 use dsql_hall_bonds::Bond;
-use dsql_run_wires::{ThinWire, perform_on};
+use dsql_player_wires::{ThinWire, perform_on};
 use std::marker::Model;
 
 /// A driver call that is to be made outside of the lock, with the wire of its connection. Contracts see the work that

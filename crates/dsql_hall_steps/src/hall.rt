@@ -2,8 +2,8 @@
 use crate::race::Race;
 use dsql_engine_laws::{Control, Wire};
 use dsql_hall_bonds::Keeper;
-use dsql_run_player::{Halt, Player};
-use dsql_run_wires::Wires;
+use dsql_player::{Halt, Player};
+use dsql_player_wires::Wires;
 use std::collections::VecDeque;
 use std::marker::Model;
 

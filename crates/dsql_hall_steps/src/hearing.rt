@@ -3,18 +3,18 @@ ghost use Rattle.std.specs.Prelude.{◌≡◌, ◌≢◌, ◌≤◌, Err, length
 ghost use Rattle.dsql_engine_laws.specs.history.Legal.{Legal};
 ghost use Rattle.dsql_engine_laws.specs.history.Readers.Clients.{call_of};
 ghost use Rattle.dsql_engine_laws.specs.laws_steps.Groups.{after_heard, most_events};
-ghost use Rattle.dsql_run_player.specs.Acts.{SamePermitsBut};
-ghost use Rattle.dsql_run_player.specs.Apart.{AnswersLeave};
-ghost use Rattle.dsql_run_player.specs.Keeping.{SameCourse};
-ghost use Rattle.dsql_run_player.specs.Playing.{IsReady};
-ghost use Rattle.dsql_run_player.specs.Stepping.{HearsAnswer};
+ghost use Rattle.dsql_player.specs.Acts.{SamePermitsBut};
+ghost use Rattle.dsql_player.specs.Apart.{AnswersLeave};
+ghost use Rattle.dsql_player.specs.Keeping.{SameCourse};
+ghost use Rattle.dsql_player.specs.Playing.{IsReady};
+ghost use Rattle.dsql_player.specs.Stepping.{HearsAnswer};
 
 use crate::errand::{Back, Unheard};
 use crate::hall::Hall;
 use crate::race::Race;
 use dsql_engine_laws::{Heard, Wire};
 use dsql_hall_bonds::Cell;
-use dsql_run_player::{Halt, Player};
+use dsql_player::{Halt, Player};
 
 /// Takes in the answer to a client's driver call, if the run has room for its events.
 fn take_in(player: &mut Player, client: u8, heard: Heard) -> Result<(), Halt>

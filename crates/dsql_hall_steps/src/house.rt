@@ -15,7 +15,7 @@ use crate::opening::Opening;
 use crate::race::Race;
 use dsql_engine_laws::{Control, DriverCall, Permit, Wire};
 use dsql_hall_bonds::Cell;
-use dsql_run_player::Halt;
+use dsql_player::Halt;
 use std::collections::VecDeque;
 use std::marker::Brand;
 

@@ -6,10 +6,10 @@ ghost use Rattle.dsql_engine_laws.specs.history.Readers.Clients.{made_by};
 ghost use Rattle.dsql_engine_laws.specs.history.Legal.{Lawful};
 ghost use Rattle.dsql_engine_laws.specs.follows.declared.line.Line.{Line};
 ghost use Rattle.dsql_engine_laws.specs.follows.Moments.{Moment, lines_of, met};
-ghost use Rattle.dsql_run_wires.specs.Seats.{seat};
-ghost use Rattle.dsql_run_player.specs.Carried.{CarriesEnd, StopsInEnd};
-ghost use Rattle.dsql_run_player.specs.Playing.{IsAt, Playing, lines_kept};
-ghost use Rattle.dsql_run_player.specs.Stepping.{IsTold, TakesStep, Wakes};
+ghost use Rattle.dsql_player_wires.specs.Seats.{seat};
+ghost use Rattle.dsql_player.specs.Carried.{CarriesEnd, StopsInEnd};
+ghost use Rattle.dsql_player.specs.Playing.{IsAt, Playing, lines_kept};
+ghost use Rattle.dsql_player.specs.Stepping.{IsTold, TakesStep, Wakes};
 ghost use Rattle.dsql_hall_steps.specs.Racing.{IsAnyStep, Races, RacesAll, resting};
 
 /// A run that has just begun is the beginning of a race, and limits may be set in it before its lines are kept. A

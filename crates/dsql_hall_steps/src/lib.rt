@@ -24,7 +24,7 @@ mod step;
 pub use chore::Chore;
 pub use closing::Closed;
 pub use dsql_hall_bonds::{Bond, Cell, Keeper, Memory};
-pub use dsql_run_player::{Halt, Player};
+pub use dsql_player::{Halt, Player};
 pub use errand::{Back, Errand, Unheard};
 pub use hall::Hall;
 pub use opening::{Opened, Opening, Unopened};

@@ -2,13 +2,13 @@
 ghost use Rattle.std.specs.Prelude.{◌≡◌, is_some, IfErr, IfOk, OnErr};
 ghost use Rattle.dsql_engine_laws.specs.driver.Wires.{connected_after};
 ghost use Rattle.dsql_engine_laws.specs.wire.Calling.{WantsConnect};
-ghost use Rattle.dsql_run_wires.specs.Told.{SameAbility};
+ghost use Rattle.dsql_player_wires.specs.Told.{SameAbility};
 ghost use Rattle.dsql_hall_steps.specs.Openings.{IsFound};
 
 use crate::race::Race;
 use dsql_engine_laws::{Fleet, Heard, Permit, Wire};
 use dsql_hall_bonds::Bond;
-use dsql_run_wires::{OpenedThin, ThinWire, open_wire};
+use dsql_player_wires::{OpenedThin, ThinWire, open_wire};
 use std::alloc::Global;
 use std::marker::Model;
 

@@ -9,7 +9,7 @@ pub trait Race: CellName {
     ghost use Rattle.dsql_engine_laws.specs.history.declared.event.Control.{Control};
     ghost use Rattle.dsql_engine_laws.specs.history.declared.event.Event.{Event};
     ghost use Rattle.dsql_engine_laws.specs.follows.declared.line.Line.{Line};
-    ghost use Rattle.dsql_run_wires.specs.Made.{Made};
+    ghost use Rattle.dsql_player_wires.specs.Made.{Made};
 
     /// The run's first event.
     ghost run: { Event };

@@ -2,10 +2,10 @@
 ghost use Rattle.std.specs.Prelude.{◌≡◌, ◌≢◌, ◌≤◌, ◌∷◌, Err, None, Some, length, OnOk, OnErr};
 ghost use Rattle.dsql_engine_laws.specs.follows.Moments.{Moment};
 ghost use Rattle.dsql_engine_laws.specs.laws_steps.Groups.{after_heard, most_events};
-ghost use Rattle.dsql_run_player.specs.Apart.{AnswersChore};
-ghost use Rattle.dsql_run_player.specs.Keeping.{SameCourse};
-ghost use Rattle.dsql_run_player.specs.Playing.{IsAt, IsReady};
-ghost use Rattle.dsql_run_player.specs.Stepping.{IsChoreOn, TakesStep};
+ghost use Rattle.dsql_player.specs.Apart.{AnswersChore};
+ghost use Rattle.dsql_player.specs.Keeping.{SameCourse};
+ghost use Rattle.dsql_player.specs.Playing.{IsAt, IsReady};
+ghost use Rattle.dsql_player.specs.Stepping.{IsChoreOn, TakesStep};
 ghost use Rattle.dsql_hall_bonds.specs.Work.{find, without};
 ghost use Rattle.dsql_hall_steps.specs.Halls.{house};
 ghost use Rattle.dsql_hall_steps.specs.House.{IsOwn, IsShutting, TellsConnect, TellsShut, own_work};
@@ -16,8 +16,8 @@ use crate::opening::{Opened, Unopened};
 use crate::race::Race;
 use dsql_engine_laws::{Heard, Wire};
 use dsql_hall_bonds::{Bond, Cell, Keeper, WorkName};
-use dsql_run_player::{Halt, Player};
-use dsql_run_wires::ThinWire;
+use dsql_player::{Halt, Player};
+use dsql_player_wires::ThinWire;
 use std::marker::Brand;
 
 /// Takes in the answer to one of the layer's own driver calls, if the run has room for its events.

@@ -10,16 +10,16 @@ use Rattle.dsql_run_outcome.specs.history.declared.event.Event.{Event}
 use Rattle.dsql_run_outcome.specs.history.declared.event.Event.TheVariants.{Run}
 use Rattle.dsql_run_outcome.specs.follows.declared.line.Line.{Line}
 use Rattle.dsql_run_outcome.specs.follows.Moments.{Moment}
-use Rattle.dsql_run_outcome.specs.run_player.Carried.{Carries, CarriesEnd, StopsInEnd, StopsInLine}
-use Rattle.dsql_run_outcome.specs.run_player.Playing.{Playing}
-use Rattle.dsql_run_outcome.specs.run_player.declared.halt.Halt.{Halt}
-use Rattle.dsql_run_outcome.specs.run_player.declared.halt.Halt.TheVariants as halts
+use Rattle.dsql_run_outcome.specs.player.Carried.{Carries, CarriesEnd, StopsInEnd, StopsInLine}
+use Rattle.dsql_run_outcome.specs.player.Playing.{Playing}
+use Rattle.dsql_run_outcome.specs.player.declared.halt.Halt.{Halt}
+use Rattle.dsql_run_outcome.specs.player.declared.halt.Halt.TheVariants as halts
 use Rattle.dsql_run_outcome.specs.script_source.declared.stop.Stop.{Stop}
 use Rattle.dsql_run_outcome.specs.script_source.declared.stop.Stop.TheVariants.{Full}
-use Rattle.dsql_run_outcome.specs.run_wires.Extends.{Extends}
+use Rattle.dsql_run_outcome.specs.player_wires.Extends.{Extends}
 use Rattle.dsql_run_outcome.specs.wire.Journaled.{Journaled}
-use Rattle.dsql_run_outcome.specs.run_wires.Told.{with_told}
-use Rattle.dsql_run_outcome.specs.run_wires.WiresFit.{PlansFit}
+use Rattle.dsql_run_outcome.specs.player_wires.Told.{with_told}
+use Rattle.dsql_run_outcome.specs.player_wires.WiresFit.{PlansFit}
 use Rattle.dsql_run_outcome.specs.Lent.{TellsOf, lent}
 use Rattle.dsql_run_outcome.specs.Runs.{IsPlayStop, IsShowStop, is_write_fault, ran_out, stop_of_halt}
 use Rattle.dsql_run_outcome.proofs.Asking.{none_told}

@@ -3,9 +3,9 @@ use Rattle.std.proofs.Common.{◌≡◌, ◌+◌, ◌≤◌, ℕ, Bool, true, fa
 use Rattle.std.specs.Prelude.{Result, Ok, Err, IfOk}
 use Rattle.dsql_run_outcome.specs.history.declared.event.Event.{Event}
 use Rattle.dsql_run_outcome.specs.follows.Labels.{times_in}
-use Rattle.dsql_run_outcome.specs.run_player.Naming.{MakeOnce, times}
-use Rattle.dsql_run_outcome.specs.run_player.Playing.{Playing}
-use Rattle.dsql_run_outcome.specs.run_wires.Seats.{Seat}
+use Rattle.dsql_run_outcome.specs.player.Naming.{MakeOnce, times}
+use Rattle.dsql_run_outcome.specs.player.Playing.{Playing}
+use Rattle.dsql_run_outcome.specs.player_wires.Seats.{Seat}
 use Rattle.dsql_run_outcome.specs.script_reader.ScriptHead.{Progress, unread}
 use Rattle.dsql_run_outcome.specs.script_reader.ScriptLabels.{kind_of}
 use Rattle.dsql_run_outcome.specs.script_reader.declared.script.ScriptLine.{ScriptLine}

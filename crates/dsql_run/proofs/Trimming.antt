@@ -8,13 +8,13 @@ use Rattle.dsql_run_outcome.specs.history.declared.event.Event.{Event}
 use Rattle.dsql_run_outcome.specs.history.Readers.Course.{has_ended}
 use Rattle.dsql_run_outcome.specs.follows.Moments.{Moment}
 use Rattle.dsql_run_outcome.specs.follows.Follows.{after}
-use Rattle.dsql_run_outcome.specs.run_player.Planned.{plans_made}
-use Rattle.dsql_run_outcome.specs.run_player.Playing.{IsAt, IsReady, Playing}
+use Rattle.dsql_run_outcome.specs.player.Planned.{plans_made}
+use Rattle.dsql_run_outcome.specs.player.Playing.{IsAt, IsReady, Playing}
 use Rattle.dsql_run_outcome.specs.script_reader.declared.script.ScriptLine.{ScriptLine}
 use Rattle.dsql_run_outcome.specs.script_source.Position.{Position}
 use Rattle.dsql_run_outcome.specs.script_source.declared.stop.Stop.{Stop}
 use Rattle.dsql_run_outcome.specs.wire.Journaled.{Journaled}
-use Rattle.dsql_run_outcome.specs.run_wires.WiresFit.{WiresFit}
+use Rattle.dsql_run_outcome.specs.player_wires.WiresFit.{WiresFit}
 use Rattle.dsql_run_outcome.specs.Followed.{FollowsSoFar}
 use Rattle.dsql_run_outcome.specs.Lent.{Lent, TellsOf}
 use Rattle.dsql_run_outcome.specs.Runs.{Between}

@@ -4,11 +4,11 @@ use Rattle.std.specs.Prelude.{Err, Result, IfErr, OnErr, OnOk}
 use Rattle.std.proofs.lemmas.List.{length-append}
 use Rattle.std.proofs.lemmas.Result.{IfErr-at_err, on_err_weaker, on_ok_weaker}
 use Rattle.dsql_run_outcome.specs.history.declared.event.Event.{Event}
-use Rattle.dsql_run_outcome.specs.run_player.declared.halt.Halt.{Halt}
+use Rattle.dsql_run_outcome.specs.player.declared.halt.Halt.{Halt}
 use Rattle.dsql_run_outcome.specs.script_report.Lines.{text_of}
 use Rattle.dsql_run_outcome.specs.script_show.Report.{with_text, StopsBetween, oldest, Shows}
 use Rattle.dsql_run_outcome.specs.script_source.declared.stop.Stop.{Stop}
-use Rattle.dsql_run_outcome.specs.run_wires.Extends.{Extends}
+use Rattle.dsql_run_outcome.specs.player_wires.Extends.{Extends}
 use Rattle.dsql_run_outcome.specs.Playing.{WritesLine}
 use Rattle.dsql_run_outcome.specs.Runs.{IsShowStop, Wrote, is_write_fault, stop_of_halt}
 use Rattle.dsql_run_outcome.proofs.Writing.{shows_older_all, stops_after_older, wrote_halted, wrote_shown}

@@ -5,12 +5,12 @@ ghost use Rattle.dsql_run_outcome.specs.history.Readers.Journals.{journal};
 ghost use Rattle.dsql_run_outcome.specs.follows.Moments.{Moment};
 ghost use Rattle.dsql_run_outcome.specs.Playing.{IsOver, RunsOn};
 ghost use Rattle.dsql_run_outcome.specs.Runs.{Between, ran_out};
-ghost use Rattle.dsql_run_outcome.specs.run_player.Carried.{CarriesEnd, StopsInEnd};
-ghost use Rattle.dsql_run_outcome.specs.run_player.Playing.{IsAt};
+ghost use Rattle.dsql_run_outcome.specs.player.Carried.{CarriesEnd, StopsInEnd};
+ghost use Rattle.dsql_run_outcome.specs.player.Playing.{IsAt};
 ghost use Rattle.dsql_run_outcome.specs.laws_steps.Groups.{most_events};
-ghost use Rattle.dsql_run_outcome.specs.run_wires.Stopped.{GivesAllBack, RecordsJournal};
-ghost use Rattle.dsql_run_outcome.specs.run_wires.Told.{FleetTellsOn, retired_from};
-ghost use Rattle.dsql_run_outcome.specs.run_wires.WiresFit.{is_wired, slot};
+ghost use Rattle.dsql_run_outcome.specs.player_wires.Stopped.{GivesAllBack, RecordsJournal};
+ghost use Rattle.dsql_run_outcome.specs.player_wires.Told.{FleetTellsOn, retired_from};
+ghost use Rattle.dsql_run_outcome.specs.player_wires.WiresFit.{is_wired, slot};
 
 use dsql_run_outcome::{Fleet, Player, Stop, Wires, carry_end, retire_all, stop_of_halt};
 

@@ -9,12 +9,12 @@ ghost use Rattle.dsql_run_outcome.specs.Headline.{IsPlayed, NotBegun, RanSo, see
 ghost use Rattle.dsql_run_outcome.specs.Lent.{lent};
 ghost use Rattle.dsql_run_outcome.specs.Playing.{HasHead, IsOver, LinesPlayed, MatchesLabels, ReadsLater, RunsOn, ScriptPlayed, WritesLines, WritesWell};
 ghost use Rattle.dsql_run_outcome.specs.Runs.{Between, Writes, is_write_fault, ran_out};
-ghost use Rattle.dsql_run_outcome.specs.run_player.Playing.{IsAt, IsReady};
+ghost use Rattle.dsql_run_outcome.specs.player.Playing.{IsAt, IsReady};
 ghost use Rattle.dsql_run_outcome.specs.script_source.Reading.{IsHeadRead};
 ghost use Rattle.dsql_run_outcome.specs.script_source.Stops.{is_read_fault, no_read_failed};
 ghost use Rattle.dsql_run_outcome.specs.laws_steps.Groups.{most_events};
 ghost use Rattle.dsql_run_outcome.specs.stream.Faults.{CountsFaults};
-ghost use Rattle.dsql_run_outcome.specs.run_wires.WiresFit.{PlansFit};
+ghost use Rattle.dsql_run_outcome.specs.player_wires.WiresFit.{PlansFit};
 
 use crate::carrying::play_line;
 use crate::closing::close;

@@ -3,7 +3,7 @@ ghost use Rattle.std.specs.Prelude.{◌≡◌, ◌<◌, ◌≤◌, ℕ, List, Op
 ghost use Rattle.dsql_run_outcome.specs.history.Legal.{Legal};
 ghost use Rattle.dsql_run_outcome.specs.follows.Moments.{Moment};
 ghost use Rattle.dsql_run_outcome.specs.Runs.{IsShowStop, is_write_fault};
-ghost use Rattle.dsql_run_outcome.specs.run_player.Playing.{IsAt, IsReady};
+ghost use Rattle.dsql_run_outcome.specs.player.Playing.{IsAt, IsReady};
 ghost use Rattle.dsql_run_outcome.specs.script_report.Lines.{text_of};
 ghost use Rattle.dsql_run_outcome.specs.script_show.Report.{Shows, oldest, StopsBetween, is_sink_fault, with_text};
 ghost use Rattle.dsql_run_outcome.specs.laws_steps.Groups.{most_events};

@@ -5,7 +5,7 @@ use Rattle.std.proofs.lemmas.List.{append-nil}
 use Rattle.dsql_history.specs.driver.declared.caps.Caps.{Caps}
 use Rattle.dsql_history.specs.driver.Wires.{FleetTold}
 use Rattle.dsql_history.specs.declared.event.Event.TheVariants.{Run}
-use Rattle.dsql_run_wires.specs.Told.{with_told}
+use Rattle.dsql_player_wires.specs.Told.{with_told}
 use Rattle.dsql_script_source.specs.Stops.{is_read_fault, no_read_failed}
 use Rattle.dsql_script_source.specs.declared.stop.Stop.{Stop}
 use Rattle.dsql_script_source.specs.declared.stop.Stop.TheVariants.{Read, Write, Memory, Refused, Full}

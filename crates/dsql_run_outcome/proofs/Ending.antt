@@ -8,15 +8,15 @@ use Rattle.dsql_history.specs.declared.event.Event.{Event}
 use Rattle.dsql_history.specs.Readers.Journals.{journal}
 use Rattle.dsql_follows.specs.Moments.{Moment}
 use Rattle.dsql_follows.specs.Follows.{after, told}
-use Rattle.dsql_run_wires.specs.Extends.{Extends}
-use Rattle.dsql_run_wires.specs.Made.{Made}
-use Rattle.dsql_run_wires.specs.Stopped.{GivesAllBack, GotAllBack, NoSurplus, RecordsJournal, wants_of, with_answer}
-use Rattle.dsql_run_wires.specs.Told.{FleetTellsOn, retired_from, with_told}
-use Rattle.dsql_run_wires.specs.WiresFit.{is_wired, slot}
-use Rattle.dsql_run_wires.proofs.GivenBack.{got_all_back, none_to_give}
-use Rattle.dsql_run_player.specs.Planned.{plans_made}
-use Rattle.dsql_run_player.specs.Carried.{CarriesEnd, StopsInEnd}
-use Rattle.dsql_run_player.specs.Playing.{Playing, IsAt}
+use Rattle.dsql_player_wires.specs.Extends.{Extends}
+use Rattle.dsql_player_wires.specs.Made.{Made}
+use Rattle.dsql_player_wires.specs.Stopped.{GivesAllBack, GotAllBack, NoSurplus, RecordsJournal, wants_of, with_answer}
+use Rattle.dsql_player_wires.specs.Told.{FleetTellsOn, retired_from, with_told}
+use Rattle.dsql_player_wires.specs.WiresFit.{is_wired, slot}
+use Rattle.dsql_player_wires.proofs.GivenBack.{got_all_back, none_to_give}
+use Rattle.dsql_player.specs.Planned.{plans_made}
+use Rattle.dsql_player.specs.Carried.{CarriesEnd, StopsInEnd}
+use Rattle.dsql_player.specs.Playing.{Playing, IsAt}
 use Rattle.dsql_script_report.specs.Lines.{text_of}
 use Rattle.dsql_script_show.specs.Report.{oldest, Shows, StopsBetween}
 use Rattle.dsql_script_source.specs.Plays.{Plays}

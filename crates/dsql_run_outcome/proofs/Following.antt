@@ -14,11 +14,11 @@ use Rattle.dsql_follows.specs.Moments.{Moment, just_begun, lines_of as lines_of_
 use Rattle.dsql_follows.specs.Sentences.{Part, after_part}
 use Rattle.dsql_follows.specs.Turns.{clients, has_run_out}
 use Rattle.dsql_follows.specs.Follows.{FollowsLine, FollowsLines, after, told}
-use Rattle.dsql_run_player.specs.Carried.{Carries, CarriesEnd, StopsInEnd, StopsInLine, part}
-use Rattle.dsql_run_wires.specs.Made.{Made}
-use Rattle.dsql_run_wires.specs.Stopped.{NoSurplus, PlansAllOrNothing, Surplus}
-use Rattle.dsql_run_player.specs.Planned.{plans_made, plans_of}
-use Rattle.dsql_run_player.specs.Playing.{Playing, IsAt}
+use Rattle.dsql_player.specs.Carried.{Carries, CarriesEnd, StopsInEnd, StopsInLine, part}
+use Rattle.dsql_player_wires.specs.Made.{Made}
+use Rattle.dsql_player_wires.specs.Stopped.{NoSurplus, PlansAllOrNothing, Surplus}
+use Rattle.dsql_player.specs.Planned.{plans_made, plans_of}
+use Rattle.dsql_player.specs.Playing.{Playing, IsAt}
 use Rattle.dsql_script_source.specs.Script.{is_skip}
 use Rattle.dsql_run_outcome.specs.Followed.{FollowsAll, FollowsSoFar, StopsShort, lines_of}
 use Rattle.dsql_run_outcome.specs.Lent.{StopsPlanning}

@@ -1,7 +1,7 @@
 pub use Rattle.dsql_script_source.proofs as script_source
 pub use Rattle.dsql_script_show.proofs as script_show
-pub use Rattle.dsql_run_wires.proofs as run_wires
-pub use Rattle.dsql_run_player.proofs as run_player
+pub use Rattle.dsql_player_wires.proofs as player_wires
+pub use Rattle.dsql_player.proofs as player
 pub mod Following
 pub mod Saying
 pub mod Writing

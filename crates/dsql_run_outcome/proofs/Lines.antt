@@ -10,13 +10,13 @@ use Rattle.dsql_follows.specs.declared.line.Line.{Line}
 use Rattle.dsql_follows.specs.Moments.{Moment, just_begun}
 use Rattle.dsql_follows.specs.Sentences.{Part}
 use Rattle.dsql_follows.specs.Follows.{after, told}
-use Rattle.dsql_run_player.specs.Carried.{Carries, StopsInLine, part}
+use Rattle.dsql_player.specs.Carried.{Carries, StopsInLine, part}
 use Rattle.dsql_wire.specs.Journaled.{Journaled}
-use Rattle.dsql_run_wires.specs.Made.{Made}
-use Rattle.dsql_run_wires.specs.Stopped.{NoSurplus, RecordsAtMost, wants_of, with_answer}
-use Rattle.dsql_run_wires.specs.WiresFit.{WiresFit}
-use Rattle.dsql_run_player.specs.Planned.{plans_made, plans_of}
-use Rattle.dsql_run_player.specs.Playing.{Playing, IsAt}
+use Rattle.dsql_player_wires.specs.Made.{Made}
+use Rattle.dsql_player_wires.specs.Stopped.{NoSurplus, RecordsAtMost, wants_of, with_answer}
+use Rattle.dsql_player_wires.specs.WiresFit.{WiresFit}
+use Rattle.dsql_player.specs.Planned.{plans_made, plans_of}
+use Rattle.dsql_player.specs.Playing.{Playing, IsAt}
 use Rattle.dsql_script_reader.specs.declared.script.ScriptLine.{ScriptLine}
 use Rattle.dsql_script_report.specs.Lines.{text_of}
 use Rattle.dsql_script_show.specs.Report.{StopsBetween, oldest}

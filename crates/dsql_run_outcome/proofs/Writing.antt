@@ -4,9 +4,9 @@ use Rattle.std.proofs.Common.{◌≡◌, ℕ, ◌≤◌, List, [], ◌++◌, Opt
 use Rattle.std.specs.Prelude.{reverse, IfErr, OnErr, OnOk, Result, Ok, Err}
 use Rattle.std.proofs.lemmas.List.{append_assoc, append-nil, reverse-append, reverse-reverse, length-reverse, take-append-le, take-append-drop, take_all}
 use Rattle.dsql_history.specs.declared.event.Event.{Event}
-use Rattle.dsql_run_wires.specs.Extends.{Extends}
-use Rattle.dsql_run_player.specs.declared.halt.Halt.{Halt}
-use Rattle.dsql_run_player.specs.declared.halt.Halt.TheVariants as halts
+use Rattle.dsql_player_wires.specs.Extends.{Extends}
+use Rattle.dsql_player.specs.declared.halt.Halt.{Halt}
+use Rattle.dsql_player.specs.declared.halt.Halt.TheVariants as halts
 use Rattle.dsql_script_report.specs.Lines.{text_of}
 use Rattle.dsql_script_show.specs.Report.{with_text, ShowsFront, StopsBetween, oldest, Shows}
 use Rattle.dsql_script_show.proofs.Texts.{text_on}

@@ -5,7 +5,7 @@ use Rattle.dsql_follows.specs.declared.line.Line.{Line}
 use Rattle.dsql_follows.specs.Moments.{met, at_end}
 use Rattle.dsql_follows.specs.Sentences.{Part, runs_in_turn}
 use Rattle.dsql_follows.specs.Follows.{Played, MakesSteps, FollowsLines, Follows, ends_in_turn, after, told, script, history}
-use Rattle.dsql_run_player.specs.Carried.{IsBeginningOf, part}
+use Rattle.dsql_player.specs.Carried.{IsBeginningOf, part}
 
 -- Returns the lines of these parts, the last one first.
 abbrev pub lines_of : List Part → List Line

@@ -17,8 +17,8 @@ use Rattle.dsql_history.specs.Rules.House.{is_quiet}
 use Rattle.dsql_follows.specs.declared.line.Line.{Line}
 use Rattle.dsql_laws_apart.specs.Apart.{are_apart}
 use Rattle.dsql_laws_steps.specs.Groups.{most_events}
-use Rattle.dsql_run_wires.specs.Told.{with_told}
-use Rattle.dsql_run_player.specs.Planned.{plans_made}
+use Rattle.dsql_player_wires.specs.Told.{with_told}
+use Rattle.dsql_player.specs.Planned.{plans_made}
 use Rattle.dsql_script_report.specs.Lines.{text_of}
 use Rattle.dsql_script_show.specs.Report.{with_text, ShowsFront}
 use Rattle.dsql_script_source.specs.Plays.{Plays, saying}

@@ -7,11 +7,11 @@ use Rattle.dsql_history.specs.declared.event.Event.{Event}
 use Rattle.dsql_follows.specs.declared.line.Line.{Line}
 use Rattle.dsql_follows.specs.Sentences.{Part}
 use Rattle.dsql_follows.specs.Follows.{told}
-use Rattle.dsql_run_wires.specs.Made.{Made}
-use Rattle.dsql_run_wires.specs.Stopped.{GotAllBack, MayCome, NoSurplus, Surplus, wants_of, with_answer}
-use Rattle.dsql_run_wires.specs.Told.{TellsJust}
-use Rattle.dsql_run_wires.specs.WiresFit.{WiresFit}
-use Rattle.dsql_run_player.specs.Planned.{plans_of, plans_made}
+use Rattle.dsql_player_wires.specs.Made.{Made}
+use Rattle.dsql_player_wires.specs.Stopped.{GotAllBack, MayCome, NoSurplus, Surplus, wants_of, with_answer}
+use Rattle.dsql_player_wires.specs.Told.{TellsJust}
+use Rattle.dsql_player_wires.specs.WiresFit.{WiresFit}
+use Rattle.dsql_player.specs.Planned.{plans_of, plans_made}
 use Rattle.dsql_run_outcome.specs.Followed.{StopsShort, lines_of}
 
 -- A fleet that is lent to a run: what it recorded as the run began, what it records at present, and its wires.

@@ -9,8 +9,8 @@ pub use Rattle.dsql_script_report.specs as script_report
 pub use Rattle.dsql_script_show.specs as script_show
 pub use Rattle.dsql_script_generator.specs as script_generator
 pub use Rattle.dsql_laws_steps.specs as laws_steps
-pub use Rattle.dsql_run_wires.specs as run_wires
-pub use Rattle.dsql_run_player.specs as run_player
+pub use Rattle.dsql_player_wires.specs as player_wires
+pub use Rattle.dsql_player.specs as player
 pub mod Followed
 pub mod Runs
 pub mod Notes

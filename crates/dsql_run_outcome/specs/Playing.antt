@@ -15,11 +15,11 @@ use Rattle.dsql_history.specs.Rules.House.{is_quiet}
 use Rattle.dsql_follows.specs.declared.line.Line.{Line}
 use Rattle.dsql_follows.specs.Sentences.{Part}
 use Rattle.dsql_follows.specs.Follows.{after}
-use Rattle.dsql_run_wires.specs.Extends.{Extends}
-use Rattle.dsql_run_wires.specs.Told.{SameAbility, with_told}
-use Rattle.dsql_run_player.specs.Naming.{times}
-use Rattle.dsql_run_player.specs.Planned.{plans_made}
-use Rattle.dsql_run_player.specs.Playing.{Playing, IsAt}
+use Rattle.dsql_player_wires.specs.Extends.{Extends}
+use Rattle.dsql_player_wires.specs.Told.{SameAbility, with_told}
+use Rattle.dsql_player.specs.Naming.{times}
+use Rattle.dsql_player.specs.Planned.{plans_made}
+use Rattle.dsql_player.specs.Playing.{Playing, IsAt}
 use Rattle.dsql_script_reader.specs.ScriptHead.{Progress}
 use Rattle.dsql_script_reader.specs.declared.script.ScriptLine.{ScriptLine}
 use Rattle.dsql_script_report.specs.Lines.{text_of}

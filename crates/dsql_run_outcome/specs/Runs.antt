@@ -10,10 +10,10 @@ use Rattle.dsql_follows.specs.declared.line.Line.{Line}
 use Rattle.dsql_follows.specs.Moments.{Moment}
 use Rattle.dsql_follows.specs.Sentences.{Part}
 use Rattle.dsql_follows.specs.Follows.{told}
-use Rattle.dsql_run_wires.specs.WiresFit.{WiresFit}
-use Rattle.dsql_run_player.specs.declared.halt.Halt.{Halt}
-use Rattle.dsql_run_player.specs.declared.halt.Halt.TheVariants as halts
-use Rattle.dsql_run_player.specs.Playing.{Playing, IsAt, IsReady}
+use Rattle.dsql_player_wires.specs.WiresFit.{WiresFit}
+use Rattle.dsql_player.specs.declared.halt.Halt.{Halt}
+use Rattle.dsql_player.specs.declared.halt.Halt.TheVariants as halts
+use Rattle.dsql_player.specs.Playing.{Playing, IsAt, IsReady}
 use Rattle.dsql_script_report.specs.Lines.{text_of}
 use Rattle.dsql_script_show.specs.Report.{with_text, ShowsFront, StopsBetween, Shows}
 use Rattle.dsql_script_show.specs.declared.showing.ShowFault.{ShowFault}

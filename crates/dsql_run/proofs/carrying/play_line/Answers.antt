@@ -3,9 +3,9 @@ use Rattle.std.specs.Prelude.{Err}
 use Rattle.dsql_run_outcome.specs.history.declared.event.Event.TheVariants.{Run}
 use Rattle.dsql_run_outcome.specs.follows.Follows.{after}
 use Rattle.dsql_run_outcome.specs.follows.Sentences.{after_part}
-use Rattle.dsql_run_outcome.proofs.run_wires.Stopped.{all_taken}
-use Rattle.dsql_run_outcome.specs.run_player.Carried.{part}
-use Rattle.dsql_run_outcome.specs.run_player.Planned.{plans_of}
+use Rattle.dsql_run_outcome.proofs.player_wires.Stopped.{all_taken}
+use Rattle.dsql_run_outcome.specs.player.Carried.{part}
+use Rattle.dsql_run_outcome.specs.player.Planned.{plans_of}
 use Rattle.dsql_run_outcome.proofs.Following.{carried_stops, line_stops_short}
 use Rattle.dsql_run_outcome.proofs.Writing.{shown_kinds}
 use Rattle.dsql_run.proofs.Going.{line_extends, stop_extends, halted, halted_full, halted_plays, halted_writes, shown_unfilled}

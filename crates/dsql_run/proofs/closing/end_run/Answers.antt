@@ -1,9 +1,9 @@
 use Rattle.std.proofs.Common.{◌∙◌, Option, is_some, sym, subst}
 use Rattle.dsql_run_outcome.specs.driver.Wires.{FleetTold}
-use Rattle.dsql_run_outcome.specs.run_wires.Stopped.{GivesAllBack}
-use Rattle.dsql_run_outcome.proofs.run_wires.GivenBack.{none_wired}
-use Rattle.dsql_run_outcome.proofs.run_wires.Stopped.{gives_all_back}
-use Rattle.dsql_run_outcome.proofs.run_player.Keeping.{able_then}
+use Rattle.dsql_run_outcome.specs.player_wires.Stopped.{GivesAllBack}
+use Rattle.dsql_run_outcome.proofs.player_wires.GivenBack.{none_wired}
+use Rattle.dsql_run_outcome.proofs.player_wires.Stopped.{gives_all_back}
+use Rattle.dsql_run_outcome.proofs.player.Keeping.{able_then}
 use Rattle.dsql_run.proofs.Going.{end_extends, end_stop_extends}
 use Rattle.dsql_run.proofs.closing.end_run.Goals as goal
 

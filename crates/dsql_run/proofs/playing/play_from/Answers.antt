@@ -1,8 +1,8 @@
 use Rattle.std.proofs.Common.{◌∙◌, ap, inl, inr, refl, arith, is_some, rules}
 use Rattle.dsql_run_outcome.specs.history.declared.event.Event.TheVariants.{Run}
 use Rattle.dsql_run_outcome.specs.follows.Moments.{just_begun}
-use Rattle.dsql_run_outcome.proofs.run_wires.Extending.{extends_then}
-use Rattle.dsql_run_outcome.proofs.run_player.Keeping.{able_then}
+use Rattle.dsql_run_outcome.proofs.player_wires.Extending.{extends_then}
+use Rattle.dsql_run_outcome.proofs.player.Keeping.{able_then}
 use Rattle.dsql_run_outcome.specs.Lent.{lent}
 use Rattle.dsql_run_outcome.specs.Runs.{is_write_fault}
 use Rattle.dsql_run_outcome.proofs.Asking.{read_played, written_played, not_read, not_written}

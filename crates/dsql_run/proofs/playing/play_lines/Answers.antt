@@ -8,19 +8,19 @@ use Rattle.dsql_run_outcome.specs.script_reader.declared.script.Head.TheVariants
 use Rattle.dsql_run_outcome.specs.script_report.Lines.{text_of}
 use Rattle.dsql_run_outcome.specs.script_show.Report.{with_text}
 use Rattle.dsql_run_outcome.specs.follows.Moments.{Moment}
-use Rattle.dsql_run_outcome.specs.run_player.Carried.{Carries, StopsInLine}
+use Rattle.dsql_run_outcome.specs.player.Carried.{Carries, StopsInLine}
 use Rattle.dsql_run_outcome.specs.follows.Labels.{times_in}
-use Rattle.dsql_run_outcome.specs.run_player.Naming.{times}
-use Rattle.dsql_run_outcome.specs.run_player.Planned.{plans_of}
-use Rattle.dsql_run_outcome.specs.run_player.Playing.{IsAt}
+use Rattle.dsql_run_outcome.specs.player.Naming.{times}
+use Rattle.dsql_run_outcome.specs.player.Planned.{plans_of}
+use Rattle.dsql_run_outcome.specs.player.Playing.{IsAt}
 use Rattle.dsql_run_outcome.specs.script_source.Plays.{saying}
 use Rattle.dsql_run_outcome.specs.script_source.Reading.{IsBodyLine, is_body}
 use Rattle.dsql_run_outcome.proofs.script_source.Errors.{err_is}
-use Rattle.dsql_run_outcome.specs.run_wires.Extends.{Extends}
-use Rattle.dsql_run_outcome.specs.run_wires.Stopped.{RecordsAtMost}
-use Rattle.dsql_run_outcome.specs.run_wires.Told.{FleetTells}
+use Rattle.dsql_run_outcome.specs.player_wires.Extends.{Extends}
+use Rattle.dsql_run_outcome.specs.player_wires.Stopped.{RecordsAtMost}
+use Rattle.dsql_run_outcome.specs.player_wires.Told.{FleetTells}
 use Rattle.dsql_run_outcome.specs.Lent.{lent}
-use Rattle.dsql_run_outcome.proofs.run_wires.Extending.{extends_same, extends_then}
+use Rattle.dsql_run_outcome.proofs.player_wires.Extending.{extends_same, extends_then}
 use Rattle.dsql_run_outcome.specs.Playing.{MatchesLabels}
 use Rattle.dsql_run_outcome.specs.Runs.{IsLinesEnd, ran_out}
 use Rattle.dsql_run_outcome.proofs.Ending.{failed_is}

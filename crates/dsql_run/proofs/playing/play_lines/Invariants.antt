@@ -6,7 +6,7 @@ use Rattle.dsql_run_outcome.specs.follows.declared.line.Line.{Line}
 use Rattle.dsql_run_outcome.specs.script_report.Lines.{text_of}
 use Rattle.dsql_run_outcome.specs.script_reader.ScriptLines.{most_lines}
 use Rattle.dsql_run_outcome.specs.script_reader.declared.script.Head.{Head}
-use Rattle.dsql_run_outcome.specs.run_wires.Extends.{Extends}
+use Rattle.dsql_run_outcome.specs.player_wires.Extends.{Extends}
 use Rattle.dsql_run_outcome.specs.script_show.Report.{with_text}
 use Rattle.dsql_run_outcome.specs.script_source.Reading.{IsBodyLine}
 use Rattle.dsql_run_outcome.specs.Lent.{lent}

@@ -1,4 +1,4 @@
-use Rattle.dsql_run_player.proofs.Tidied.{no_connect, no_shut}
+use Rattle.dsql_player.proofs.Tidied.{no_connect, no_shut}
 use Rattle.dsql_hall_steps.proofs.hall.Hall.send_chore.Goals as goal
 
 pub unreachable-requires : goal.unreachable-requires

@@ -1,5 +1,5 @@
 use Rattle.std.proofs.Common.{arith, ap, refl, ◌∙◌}
-use Rattle.dsql_run_wires.specs.Seats.{seat}
+use Rattle.dsql_player_wires.specs.Seats.{seat}
 use Rattle.dsql_hall_steps.proofs.Carrying.{few_away, none_is_out}
 use Rattle.dsql_hall_steps.proofs.Sent.{sent_is, sent_on}
 use Rattle.dsql_hall_steps.proofs.hall.Hall.send_out.Goals as goal

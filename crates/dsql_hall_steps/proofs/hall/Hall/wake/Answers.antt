@@ -1,7 +1,7 @@
 use Rattle.std.proofs.Common.{ap, ◌∙◌, is_some}
 use Rattle.dsql_engine_laws.specs.history.Readers.Clients.{call_of}
 use Rattle.dsql_engine_laws.specs.laws_ends.Over.{may_move}
-use Rattle.dsql_run_wires.specs.Seats.{seat}
+use Rattle.dsql_player_wires.specs.Seats.{seat}
 use Rattle.dsql_hall_steps.proofs.Moving.{woke_on}
 use Rattle.dsql_hall_steps.proofs.Stepped.{woken}
 use Rattle.dsql_hall_steps.proofs.hall.Hall.wake.Goals as goal
