@@ -66,8 +66,21 @@ impl Judge {
         if let Err(Memory) = self.tables.reserve(1) {
             return Err(JudgeFault::Memory);
         }
-        self.tables.hear(entry);
+        self.hear(entry);
         Ok(())
+    }
+
+    /// Records the entry that comes next, and decides nothing. The entry must keep the journal a beginning of a
+    /// whole one, and there must be room for it.
+    pub fn hear(&mut self, entry: &Entry)
+        requires follows { IsBeginningOf self.old.conn (entry.now ∷ self.old.journal) }
+        requires room { 0 < self.old.spare }
+        ensures journal { self.new.journal ≡ entry.now ∷ self.old.journal }
+        ensures conn { self.new.conn ≡ self.old.conn }
+        ensures spare { self.old.spare ≤ self.new.spare + 1 }
+        ensures beginning { IsBeginningOf self.new.conn self.new.journal }
+    {
+        self.tables.hear(entry);
     }
 
     /// Returns whether the judge would accept each answer that fits the permit's call at its place.

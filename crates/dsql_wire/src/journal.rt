@@ -67,10 +67,7 @@ impl JudgedJournal {
         ensures journal { self.new.journal ≡ entry.now ∷ self.old.journal }
         ensures conn { self.new.conn ≡ self.old.conn }
     {
-        match self.judge.next(entry) {
-            Ok(()) => {}
-            Err(_) => unreachable!(),
-        }
+        self.judge.hear(entry);
     }
 
     /// Returns the connection's number.
