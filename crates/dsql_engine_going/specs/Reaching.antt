@@ -1,5 +1,5 @@
 -- What a call that goes on requires, and what it ensures.
-use Rattle.std.specs.Prelude.{◌≡◌, ◌≤◌, ◌<◌, ◌+◌, ℕ, true, false, List, length, Some, is_some}
+use Rattle.std.specs.Prelude.{◌≡◌, ◌≤◌, ◌<◌, ◌+◌, ℕ, true, false, List, length, Option, Some, is_some, option_map}
 use Rattle.dsql_laws_calls.specs.works.Limits.{most_within_a_step}
 use Rattle.dsql_laws_calls.specs.history.declared.event.Event.{Event}
 use Rattle.dsql_laws_calls.specs.history.declared.record.Flight.{Flight}
@@ -10,7 +10,10 @@ use Rattle.dsql_laws_calls.specs.history.Rules.Line.{due_for}
 use Rattle.dsql_laws_calls.specs.history.Rules.Replies.{gave_back}
 use Rattle.dsql_laws_calls.specs.history.Rules.Settled.{Settled, is_settled_but}
 use Rattle.dsql_laws_calls.specs.history.Rules.Stands.{stand}
+use Rattle.dsql_laws_calls.specs.history.Rules.Sent.{asked_by}
 use Rattle.dsql_laws_steps.specs.Groups.{given_up}
+use Rattle.dsql_engine_exchanged.specs.declared.bare.BareCall.{BareCall}
+use Rattle.dsql_engine_exchanged.specs.Filled.{filled}
 use Rattle.dsql_engine_pooling.specs.UnderWay.{UnderWay}
 use Rattle.dsql_engine_desk.specs.declared.desk.Desk.{Desk}
 use Rattle.dsql_engine_desk.specs.Desk.{trimmed, past, Stands}
@@ -49,6 +52,10 @@ pub record MayGoOn (past : List Event) (flights : UnderWay) (n : ℕ) : Type 0 w
   pub unfinished : is_unfinished past n ≡ true
   pub parked : is_in_flight n flights.flights ≡ false
   pub spare : 0 < flights.spare
+
+-- Holds if this is the driver call that is due for call n, without its statement, or none is due.
+abbrev pub IsDue : List Event → ℕ → Option BareCall → Type 0
+IsDue past n due = option_map (filled (asked_by past n)) due ≡ due_for past n
 
 -- Holds if the call has gone on, and these driver calls were under way before.
 pub record HasGoneOn (now : List Event) (before after : List Flight) (n : ℕ) (next : Next) : Type 0 where

@@ -4,7 +4,7 @@ ghost use Rattle.dsql_engine_desk.specs.Desk.{trimmed, past, Stands};
 ghost use Rattle.dsql_engine_exchanged.specs.Filled.{filled};
 ghost use Rattle.dsql_laws_calls.specs.Bounds.{most_given_back};
 ghost use Rattle.dsql_laws_steps.specs.Groups.{after_reply, asked_so, gone_on, unless_resting};
-ghost use Rattle.dsql_engine_going.specs.Reaching.{CanPay, GivesUp, Reaches, MayGoOn, HasGoneOn};
+ghost use Rattle.dsql_engine_going.specs.Reaching.{CanPay, GivesUp, IsDue, Reaches, MayGoOn, HasGoneOn};
 ghost use Rattle.dsql_engine_going.specs.Stepping.{most_going_on};
 ghost use Rattle.dsql_laws_calls.specs.history.Readers.Calls.{reply_due, rests};
 ghost use Rattle.dsql_laws_calls.specs.history.Readers.Unfinished.{is_unfinished};
@@ -29,7 +29,20 @@ pub fn go_on(desk: &mut Desk, flights: &mut Flights, call: u32) -> Next
     ensures trimmed { trimmed desk.new ≡ trimmed desk.old }
     ensures goes { HasGoneOn (past desk.new) flights.old.flights flights.new.flights call result }
 {
-    if let Some(due) = desk.due(call) {
+    let due = desk.due(call);
+    go_on_with(desk, flights, call, due)
+}
+
+/// Lets a call without a reply go on as `go_on` does, if this is the driver call that is due for the call.
+pub fn go_on_with(desk: &mut Desk, flights: &mut Flights, call: u32, due: Option<BareCall>) -> Next
+    requires pays { CanPay desk.old most_going_on }
+    requires may { MayGoOn (past desk.old) flights.old call }
+    requires due { IsDue (past desk.old) call due }
+    ensures reaches { Reaches desk.new (gone_on call (past desk.old)) }
+    ensures trimmed { trimmed desk.new ≡ trimmed desk.old }
+    ensures goes { HasGoneOn (past desk.new) flights.old.flights flights.new.flights call result }
+{
+    if let Some(due) = due {
         return send(desk, flights, call, due);
     }
     if desk.is_settled(call) {

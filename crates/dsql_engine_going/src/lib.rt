@@ -15,6 +15,6 @@ pub use dsql_laws_calls::{
     Memory, Op, Owner, Permit, Place, Planned, Reply, Stand, Wire,
 };
 pub use enter::enter_call;
-pub use going::go_on;
+pub use going::{go_on, go_on_with};
 pub use next::{Next, Why};
 pub use permits::tx_carried;

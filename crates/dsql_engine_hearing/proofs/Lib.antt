@@ -15,3 +15,4 @@ pub mod Welcome
 pub mod Letting
 pub mod Steps
 pub mod Lent
+pub mod StayingDue

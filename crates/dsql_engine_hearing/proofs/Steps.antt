@@ -15,11 +15,10 @@ use Rattle.dsql_engine_going.specs.history.declared.record.Flight.{Flight}
 use Rattle.dsql_engine_going.specs.history.Readers.Calls.{reply_due}
 use Rattle.dsql_engine_going.specs.history.Readers.Journals.{journal}
 use Rattle.dsql_engine_going.specs.history.Readers.Owed.{fate_when}
-use Rattle.dsql_engine_going.specs.history.Readers.Pool.{place, pool}
+use Rattle.dsql_engine_going.specs.history.Readers.Pool.{place}
 use Rattle.dsql_engine_going.specs.history.Readers.Unfinished.{is_unfinished}
 use Rattle.dsql_engine_going.specs.history.Rules.Flights.{is_in_flight, without_flight}
 use Rattle.dsql_engine_going.specs.history.Rules.Line.{due_for}
-use Rattle.dsql_engine_going.specs.history.Rules.Moves.{hears_in}
 use Rattle.dsql_engine_going.specs.history.Rules.Settled.{Settled, calls_stand_but, is_settled_but, owes_nothing, uses_what_is_lent}
 use Rattle.dsql_engine_going.specs.history.Legal.{Allowed, Lawful}
 use Rattle.dsql_engine_going.proofs.laws.Numbered.{unfinished_from_one}
@@ -102,7 +101,7 @@ answer_tells H e told is good =
 
 -- There is no call 0.
 
-nobody_left : (P : List Event) → Lawful P → is_unfinished P 0 ≡ false
+pub nobody_left : (P : List Event) → Lawful P → is_unfinished P 0 ≡ false
 nobody_left P l = by (is_unfinished P 0) refl
   where
     by : (b : Bool) → is_unfinished P 0 ≡ b → is_unfinished P 0 ≡ false

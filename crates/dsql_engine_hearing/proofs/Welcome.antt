@@ -10,7 +10,7 @@ use Rattle.dsql_engine_going.specs.driver.Kinds.{is_connect, is_shut}
 use Rattle.dsql_engine_going.specs.course.declared.course.Wish.TheVariants as wishes
 use Rattle.dsql_engine_going.specs.journal.declared.entry.Entry.{Entry}
 use Rattle.dsql_engine_going.specs.journal.declared.entry.Owner.{Owner}
-use Rattle.dsql_engine_going.specs.journal.declared.entry.Owner.TheVariants.{Tx, House}
+use Rattle.dsql_engine_going.specs.journal.declared.entry.Owner.TheVariants.{House}
 use Rattle.dsql_engine_going.specs.journal.Entries.{house_entry}
 use Rattle.dsql_engine_going.specs.journal.HandlesAndCursors.{fits_at_its_place, gives_new_cursor, gives_new_handle, has_width_of_cursor, is_fitting, is_heard}
 use Rattle.dsql_engine_going.specs.journal.Journal.{may_follow}

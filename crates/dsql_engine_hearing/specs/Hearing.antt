@@ -1,5 +1,5 @@
 -- Which answers may be heard, and what is let go after them.
-use Rattle.std.specs.Prelude.{◌≡◌, ◌+◌, ◌≤◌, ℕ, true, false, cond, List, Option, Some, None}
+use Rattle.std.specs.Prelude.{◌≡◌, ◌+◌, ◌≤◌, ℕ, true, false, cond, List, Option, Some, None, is_some}
 use Rattle.dsql_engine_going.specs.journal.declared.entry.Entry.{Entry}
 use Rattle.dsql_engine_going.specs.journal.Kinds.{is_house, number_of}
 use Rattle.dsql_engine_going.specs.journal.HandlesAndCursors.{fits_at_its_place}
@@ -14,7 +14,7 @@ use Rattle.dsql_engine_going.specs.history.Readers.Journals.{journal}
 use Rattle.dsql_engine_going.specs.history.Readers.Transactions.{transactions}
 use Rattle.dsql_engine_going.specs.history.Readers.Owed.{fate}
 use Rattle.dsql_engine_going.specs.history.Readers.Works.{work}
-use Rattle.dsql_engine_going.specs.history.Rules.Line.{keeps_line}
+use Rattle.dsql_engine_going.specs.history.Rules.Line.{due_for, is_used, keeps_line}
 use Rattle.dsql_engine_going.specs.history.Rules.Moves.{keeps_sets}
 use Rattle.dsql_engine_going.specs.history.Rules.Settled.{Settled}
 use Rattle.dsql_engine_going.specs.history.Legal.{Allowed}
@@ -55,6 +55,12 @@ pub record LetsGo (old new : Desk) (c n : ℕ) : Type 0 where
   pub paid : old.paid ≤ new.paid + most_given_back
   pub history : past new ≡ let_go c n (past old)
   pub trimmed : trimmed new ≡ trimmed old
+
+-- Holds if call m has the same to send after connection c, which is lent to call n or its transaction, was let go. What
+-- the call has to send keeps the connection in use.
+pub record StaysDue (past : List Event) (c n m : ℕ) : Type 0 where
+  pub used : is_some (due_for past m) ≡ true → is_used past n ≡ true
+  pub same : due_for (let_go c n past) m ≡ due_for past m
 
 -- Holds if the newest answer on connection c gives it this fate, or the connection is known to be bad.
 abbrev pub TellsOfIt : List Event → ℕ → Fate → Type 0

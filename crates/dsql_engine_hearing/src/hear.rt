@@ -13,13 +13,13 @@ ghost use Rattle.dsql_engine_going.specs.desk.Appending.{DecidesNow};
 ghost use Rattle.dsql_engine_going.specs.desk.Desk.{trimmed, past, Stands};
 ghost use Rattle.dsql_engine_going.specs.desk.Next.{has_line};
 ghost use Rattle.dsql_engine_going.specs.history.Readers.Works.{work};
-ghost use Rattle.dsql_engine_going.specs.Reaching.{CanPay, Reaches};
+ghost use Rattle.dsql_engine_going.specs.Reaching.{CanPay, IsDue, Reaches};
 ghost use Rattle.dsql_engine_going.specs.Stepping.{events_of_a_step, MayStep, GoesOnOrRests};
-ghost use Rattle.dsql_engine_hearing.specs.Hearing.{IsWelcome, MayHear, LetsGo, TellsOfIt, lent_to};
+ghost use Rattle.dsql_engine_hearing.specs.Hearing.{IsWelcome, MayHear, LetsGo, StaysDue, TellsOfIt, lent_to};
 ghost use Rattle.dsql_engine_going.specs.laws_steps.Groups.{after_heard, gone_on, let_go, with_owed};
 
 use dsql_engine_going::{
-    Desk, DriverAnswer, Entry, Fate, Flights, Next, Place, Reply, fate_of, go_on,
+    BareCall, Desk, DriverAnswer, Entry, Fate, Flights, Next, Place, Reply, fate_of, go_on_with,
 };
 
 /// What the step for an answer needs, with the memory for it.
@@ -88,11 +88,38 @@ fn hear_lent(
     let call = entry.call_no;
     let newest = fate_of(&entry.answer);
     desk.hear(entry, copy, reply);
-    let_go(desk, conn, borrower, newest);
+    let due = due_or_let_go(desk, conn, borrower, call, newest);
     if call == 0 {
         Next::Quiet
     } else {
-        go_on(desk, flights, call)
+        go_on_with(desk, flights, call, due)
+    }
+}
+
+/// Returns the driver call that is due for a call on a lent connection. If none is due, gives the connection back
+/// unless it is still in use. Call 0 is the layer, for which none is due.
+fn due_or_let_go(
+    desk: &mut Desk,
+    conn: u32,
+    borrower: u32,
+    call: u32,
+    newest: Fate,
+) -> Option<BareCall>
+    requires pays { CanPay desk.old most_given_back }
+    requires lent { is_lent (place (past desk.old) conn) ≡ true }
+    requires line { has_line (work (past desk.old) borrower) ≡ true }
+    requires leaves { is_used (past desk.old) borrower ≡ false → MayLeave (past desk.old) conn }
+    requires newest { TellsOfIt (past desk.old) conn newest }
+    requires stays { StaysDue (past desk.old) conn borrower call }
+    ensures leaves { LetsGo desk.old desk.new conn borrower }
+    ensures due { IsDue (past desk.new) call result }
+{
+    match desk.due(call) {
+        Some(due) => Some(due),
+        None => {
+            let_go(desk, conn, borrower, newest);
+            None
+        }
     }
 }
 

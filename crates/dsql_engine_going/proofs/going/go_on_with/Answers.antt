@@ -15,7 +15,7 @@ use Rattle.dsql_engine_going.proofs.Groups.{due_group, settled_group, asking_gro
 use Rattle.dsql_engine_going.proofs.Leaves.{due_told}
 use Rattle.dsql_engine_going.proofs.Replying.{goes_finished}
 use Rattle.dsql_engine_going.proofs.Standing.{goes_blocked, number_in, opens_somewhere, settled_itself, wanting}
-use Rattle.dsql_engine_going.proofs.going.go_on.Goals as goal
+use Rattle.dsql_engine_going.proofs.going.go_on_with.Goals as goal
 
 pub returns-in-Some-clause-reaches : goal.returns-in-Some-clause-reaches
 unfolding Stands
@@ -24,7 +24,7 @@ returns-in-Some-clause-reaches c =
     let n = c.args.call in
     let s = c.requires.pays.stands in
     let l = s.tables.lawful in
-    let due : is_some (due_for H n) ≡ true = due_told H n c.due.result (Some c.in-Some.due) c.due.ensures c.in-Some.is in
+    let due : is_some (due_for H n) ≡ true = due_told H n c.args.due (Some c.in-Some.due) c.requires.due c.in-Some.is in
     let at = stands_sending H n l (unfinished_from_one H n l c.requires.may.unfinished) due in
     record { stands = s; settled = settled_itself H n c.requires.may.settled (ap (λ it. is_some it) at); group = sym (due_group H n due) }
 
@@ -37,7 +37,7 @@ pub returns-then-is_settled-clause-reaches : goal.returns-then-is_settled-clause
 returns-then-is_settled-clause-reaches c =
     let H = past c.args.desk.now in
     let n = c.args.call in
-    let silent : is_some (due_for H n) ≡ false = due_told H n c.due.result None c.due.ensures c.in_default.is in
+    let silent : is_some (due_for H n) ≡ false = due_told H n c.args.due None c.requires.due c.in_default.is in
     let told : is_some (reply_due H n) ≡ true = sym c.is_settled.ensures ∙ c.if-is_settled.true in
     let r = c.reply.ensures.reaches in
     record { stands = r.stands; settled = r.settled; group = r.group ∙ sym (settled_group H n c.requires.may.unfinished silent told) }
@@ -52,7 +52,7 @@ pub returns-then-may_ask-clause-reaches : goal.returns-then-may_ask-clause-reach
 returns-then-may_ask-clause-reaches c =
     let H = past c.args.desk.now in
     let n = c.args.call in
-    let silent : is_some (due_for H n) ≡ false = due_told H n c.due.result None c.due.ensures c.in_default.is in
+    let silent : is_some (due_for H n) ≡ false = due_told H n c.args.due None c.requires.due c.in_default.is in
     let untold : is_some (reply_due H n) ≡ false = sym c.is_settled.ensures ∙ c.if-is_settled.false in
     let may : may_ask H n ≡ true = sym c.may_ask.ensures ∙ c.if-may_ask.true in
     let r = c.ask.ensures.reaches in
@@ -62,7 +62,7 @@ pub returns-then-waits-clause-reaches : goal.returns-then-waits-clause-reaches
 returns-then-waits-clause-reaches c =
     let H = past c.args.desk.now in
     let n = c.args.call in
-    let silent : is_some (due_for H n) ≡ false = due_told H n c.due.result None c.due.ensures c.in_default.is in
+    let silent : is_some (due_for H n) ≡ false = due_told H n c.args.due None c.requires.due c.in_default.is in
     let untold : is_some (reply_due H n) ≡ false = sym c.is_settled.ensures ∙ c.if-is_settled.false in
     let may : may_ask H n ≡ false = sym c.may_ask.ensures ∙ c.if-may_ask.false in
     let waiting : waits n (pool H).waiting ≡ true = sym c.waits.ensures ∙ c.if-waits.true in
@@ -79,7 +79,7 @@ returns-else-waits-clause-reaches c =
     let n = c.args.call in
     let l = c.requires.pays.stands.tables.lawful in
     let u = c.requires.may.unfinished in
-    let silent : is_some (due_for H n) ≡ false = due_told H n c.due.result None c.due.ensures c.in_default.is in
+    let silent : is_some (due_for H n) ≡ false = due_told H n c.args.due None c.requires.due c.in_default.is in
     let untold : is_some (reply_due H n) ≡ false = sym c.is_settled.ensures ∙ c.if-is_settled.false in
     let may : may_ask H n ≡ false = sym c.may_ask.ensures ∙ c.if-may_ask.false in
     let unwaiting : waits n (pool H).waiting ≡ false = sym c.waits.ensures ∙ c.if-waits.false in
@@ -97,7 +97,7 @@ returns-else-waits-clause-goes c =
     let n = c.args.call in
     let l = c.requires.pays.stands.tables.lawful in
     let u = c.requires.may.unfinished in
-    let silent : is_some (due_for H n) ≡ false = due_told H n c.due.result None c.due.ensures c.in_default.is in
+    let silent : is_some (due_for H n) ≡ false = due_told H n c.args.due None c.requires.due c.in_default.is in
     let untold : is_some (reply_due H n) ≡ false = sym c.is_settled.ensures ∙ c.if-is_settled.false in
     let may : may_ask H n ≡ false = sym c.may_ask.ensures ∙ c.if-may_ask.false in
     let unwaiting : waits n (pool H).waiting ≡ false = sym c.waits.ensures ∙ c.if-waits.false in
