@@ -28,3 +28,4 @@ pub mod EndingLent
 pub mod SentOver
 pub mod Beginning
 pub mod MadeLabels
+pub mod Makers

@@ -97,12 +97,15 @@ impl Desk {
         }
     }
 
-    /// Returns whether a call has begun a transaction.
+    /// Returns whether a call has begun a transaction. It looks it up only if the call is to begin one.
     pub(crate) fn is_begun(&self, call: u32) -> bool
         requires { Stands self.now }
         ensures { result ≡ is_begun (past self.now) call }
     {
-        self.txs.was_made(call)
+        match self.options(call) {
+            Some(_) => self.txs.was_made(call),
+            None => false,
+        }
     }
 
     /// Returns whether the transaction of a call goes on.

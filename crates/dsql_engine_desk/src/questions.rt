@@ -8,7 +8,7 @@ ghost use Rattle.dsql_engine_exchanged.specs.Filled.{carries_statement, refilled
 ghost use Rattle.dsql_laws_calls.specs.history.Readers.Calls.{call_record, decided, is_busy, next_call, site};
 ghost use Rattle.dsql_laws_calls.specs.history.Readers.Clients.{call_of, client_of};
 ghost use Rattle.dsql_laws_calls.specs.history.Readers.Controls.{taken};
-ghost use Rattle.dsql_laws_calls.specs.history.Readers.HandedOut.{are_live, are_over, ender};
+ghost use Rattle.dsql_laws_calls.specs.history.Readers.HandedOut.{are_live, are_over, ender, rows_by};
 ghost use Rattle.dsql_laws_calls.specs.history.Readers.Pool.{is_home, smallest, home, place, pool};
 ghost use Rattle.dsql_laws_calls.specs.history.Readers.Journals.{journal};
 ghost use Rattle.dsql_laws_calls.specs.history.Readers.Unfinished.{is_unfinished, unfinished};
@@ -299,13 +299,24 @@ impl Desk {
         row::ender_of(&self.calls, call)
     }
 
+    /// Returns whether a call handed out rows. It looks them up only if the call is to hand rows out.
+    pub(crate) fn has_handed_out(&self, call: u32) -> bool
+        requires { Stands self.now }
+        ensures { result ≡ is_some (rows_by (past self.now) call) }
+    {
+        match self.aim(call) {
+            Aim::HandOut => self.rows.was_made(call),
+            _ => false,
+        }
+    }
+
     /// Returns whether the rows of a call are live.
     #[tactic(auto, unfolding(crate::specs::Desk::Stands))]
     pub(crate) fn are_live(&self, call: u32) -> bool
         requires { Stands self.now }
         ensures { result ≡ are_live (past self.now) call }
     {
-        self.rows.was_made(call) && self.rows.is_live(call)
+        self.has_handed_out(call) && self.rows.is_live(call)
     }
 
     /// Returns whether a call handed out rows that have ended.
@@ -314,6 +325,6 @@ impl Desk {
         requires { Stands self.now }
         ensures { result ≡ are_over (past self.now) call }
     {
-        self.rows.was_made(call) && !self.rows.is_live(call)
+        self.has_handed_out(call) && !self.rows.is_live(call)
     }
 }

@@ -201,7 +201,7 @@ impl Desk {
     {
         row::has_another_try(&self.calls, call)
             && self.lent_or_opened(call).is_none()
-            && !self.rows.was_made(call)
+            && !self.has_handed_out(call)
     }
 
     /// Returns whether an unfinished call asks again after a refusal.
