@@ -20,7 +20,7 @@ pub use worked_reports::{
 };
 pub use worked_scripts::{
     worked_fault_lines, worked_label_lines, worked_limit_lines, worked_one_lines,
-    worked_ping_lines, worked_script_lines, worked_start_lines, worked_step_lines,
-    worked_tick_lines,
+    worked_ping_lines, worked_race_lines, worked_script_lines, worked_start_lines,
+    worked_step_lines, worked_tick_lines,
 };
 pub use worked_transactions::{worked_begin_lines, worked_transaction_lines};

@@ -8,7 +8,7 @@ ghost use Rattle.dsql_history.specs.declared.event.Setting.TheVariants.{MaxOpen,
 ghost use Rattle.dsql_history.specs.declared.event.Control.TheVariants.{Tick, Set};
 ghost use Rattle.dsql_script_forms.specs.declared.fault.What.TheVariants.{Lines, Args};
 ghost use Rattle.dsql_script_forms.specs.declared.fault.LineFault.TheVariants.{TooLong, NotUtf8, NoSuchWord, BadJson, BadShape, UnknownLabel, LabelTaken, TooMany};
-ghost use Rattle.dsql_script_reader.specs.ScriptHead.{caps_among, unread, progress, progress_past, after};
+ghost use Rattle.dsql_script_reader.specs.ScriptHead.{caps_among, unread, unread_by, progress, progress_past, after};
 ghost use Rattle.dsql_history.specs.declared.event.Op.TheVariants.{Exec, One};
 ghost use Rattle.dsql_history.specs.declared.event.Op.TheVariants as op;
 ghost use Rattle.dsql_history.specs.declared.event.Target.TheVariants.{Db};
@@ -231,6 +231,28 @@ pub fn worked_start_lines()
         (codes "c1 next r")
         ≡ Ok (Client 1 (op.Next (codes "r")) false) }
     ensures no_caps_behind { read_of (after unread (Client 1 op.Stats true)) (codes "caps") ≡ Err NoSuchWord }
+{}
+
+/// States what is read of lines of a script for a race.
+pub fn worked_race_lines()
+    ensures tick { read_of (unread_by true) (codes "tick 5") ≡ Err NoSuchWord }
+    ensures start { read_of (unread_by true) (codes "start c1 ping db") ≡ Err NoSuchWord }
+    ensures step { read_of (unread_by true) (codes "step c1") ≡ Err NoSuchWord }
+    ensures step_of_house { read_of (unread_by true) (codes "step house\r") ≡ Err NoSuchWord }
+    ensures too_many_first { read_of (record (progress 10000 Begun) { race = true }) (codes "step c1")
+        ≡ Err (TooMany Lines) }
+    ensures too_long_first { read_of (unread_by true) (codes "tick " ++ replicate 4092 48) ≡ Err TooLong }
+    ensures not_utf8_first { read_of (unread_by true) (codes "start " ++ 255 ∷ []) ≡ Err NotUtf8 }
+    ensures shape_behind { read_of (unread_by true) (codes "tick") ≡ Err NoSuchWord }
+    ensures json_behind { read_of (unread_by true) (codes "start c1 exec db [") ≡ Err NoSuchWord }
+    ensures label_behind { read_of (unread_by true) (codes "start c1 next r") ≡ Err NoSuchWord }
+    ensures comment { read_of (unread_by true) (codes "#tick 5") ≡ Ok Skip }
+    ensures version { read_of (unread_by true) (codes "version 1") ≡ Ok (Version 1) }
+    ensures limit { read_of (unread_by true) (codes "maxopen 2") ≡ Ok (script.Control (Set MaxOpen (pos 2))) }
+    ensures fault { read_of (unread_by true) (codes "fault 1 2 bad") ≡ Ok (script.Fault 1 2 Bad) }
+    ensures ping { read_of (unread_by true) (codes "c1 ping db") ≡ Ok (Client 1 op.Ping false) }
+    ensures unknown { read_of (unread_by true) (codes "c1 next r") ≡ Err UnknownLabel }
+    ensures step_behind { read_of (after (unread_by true) (Client 1 op.Ping false)) (codes "step c1") ≡ Err NoSuchWord }
 {}
 
 /// States what is read of lines that ping.

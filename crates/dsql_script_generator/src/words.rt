@@ -1,6 +1,6 @@
 //! What the words of the command line ask for.
 ghost use Rattle.std.specs.Prelude.{◌≡◌};
-ghost use Rattle.dsql_script_generator.specs.Words.{command_of, command_with};
+ghost use Rattle.dsql_script_generator.specs.Words.{command_alone, command_of, command_with};
 
 use crate::count::count_of;
 use dsql_value::Txt;
@@ -12,18 +12,31 @@ pub enum Command {
     Play,
     /// Play a script and write its summary.
     Summarize,
+    /// Race a script and write its report.
+    Race,
     /// Generate this many lines of a script.
     Generate(u32),
 }
 
 /// Returns what the program's words, without its name, ask for. `None` means that they aren't accepted.
-/// Accepted are `play`, `play --summary`, and `gen N` with N from 1 to 10,000.
+/// Accepted are `play`, `play --summary`, `race`, and `gen N` with N from 1 to 10,000.
 pub fn command_of(words: &[Txt]) -> Option<Command>
     ensures { result ≡ command_of words.now }
 {
     match words {
-        [word] if word.as_str() == "play" => Some(Command::Play),
+        [word] => command_alone(word.as_str()),
         [word, more] => command_with(word.as_str(), more.as_str()),
+        _ => None,
+    }
+}
+
+/// Returns what one word asks for.
+fn command_alone(word: &str) -> Option<Command>
+    ensures { result ≡ command_alone word.now }
+{
+    match word {
+        "play" => Some(Command::Play),
+        "race" => Some(Command::Race),
         _ => None,
     }
 }

@@ -1,5 +1,5 @@
 -- Proves that what a line says depends on whether its bytes are UTF-8. The argument has a case for each.
-use Rattle.std.proofs.Common.{◌≡◌, ◌≢◌, ℕ, suc, ◌-◌, List, [], ◌∷◌, ◌++◌, eqb, length, length-append, take, get_or, Option, Some, None, unwrap_or, refl, sym, ap, ◌∙◌, inl, inr, arith, Bor, ◌≤◌, false, Err}
+use Rattle.std.proofs.Common.{◌≡◌, ◌≢◌, ℕ, Bool, suc, ◌-◌, List, [], ◌∷◌, ◌++◌, eqb, length, length-append, take, get_or, Option, Some, None, unwrap_or, refl, sym, ap, ◌∙◌, inl, inr, arith, Bor, ◌≤◌, false, Err}
 use Rattle.std.specs.Option.{MatchOption}
 use Rattle.std.specs.Str.Lines.{strip_carriage_return}
 use Rattle.std.proofs.Math.Seq.{split_at, take-append_seam}
@@ -8,7 +8,7 @@ use Rattle.std.proofs.lemmas.Bool.{cases_Bool, eqb-true, le-ltb}
 use Rattle.std.specs.Str.{IsUtf8, is_utf8}
 use Rattle.std.proofs.lemmas.Str.{IsUtf8-from_is_utf8, is_utf8-from_IsUtf8}
 use Rattle.dsql_script_forms.specs.declared.fault.LineFault.TheVariants.{NotUtf8}
-use Rattle.dsql_script_reader.specs.ScriptLines.{most_bytes, line_of, text_of}
+use Rattle.dsql_script_reader.specs.ScriptLines.{most_bytes, line_of, text_by}
 use Rattle.dsql_script_reader.specs.declared.script.Head.{Head}
 
 strip-return : (front : List ℕ) → strip_carriage_return (front ++ 13 ∷ []) ≡ front
@@ -36,11 +36,11 @@ pub strip_carriage_return-is : (line : Bor (List ℕ)) (stripped : Option (Bor (
 strip_carriage_return-is line None none = sym (strip_no_return line.now none)
 strip_carriage_return-is line (Some x) is = sym (ap strip_carriage_return is ∙ strip-return x.now)
 
-pub line_of_text : (head : Head) (line : List ℕ) → length line ≤ most_bytes → IsUtf8 line → line_of head line ≡ text_of head (strip_carriage_return line)
-line_of_text head line few text = rw (le-ltb most_bytes (length line) few, is_utf8-from_IsUtf8 line text) refl
+pub line_of_text : (race : Bool) (head : Head) (line : List ℕ) → length line ≤ most_bytes → IsUtf8 line → line_of race head line ≡ text_by race head (strip_carriage_return line)
+line_of_text race head line few text = rw (le-ltb most_bytes (length line) few, is_utf8-from_IsUtf8 line text) refl
 
 not_text : (line : List ℕ) → ¬ (IsUtf8 line) → is_utf8 line ≡ false
 not_text line bytes = elim (cases_Bool (is_utf8 line)) [ inl is ↦ absurd (bytes (IsUtf8-from_is_utf8 line is)) | inr is ↦ is ]
 
-pub line_of_bytes : (head : Head) (line : List ℕ) → length line ≤ most_bytes → ¬ (IsUtf8 line) → line_of head line ≡ Err NotUtf8
-line_of_bytes head line few bytes = rw (le-ltb most_bytes (length line) few, not_text line bytes) refl
+pub line_of_bytes : (race : Bool) (head : Head) (line : List ℕ) → length line ≤ most_bytes → ¬ (IsUtf8 line) → line_of race head line ≡ Err NotUtf8
+line_of_bytes race head line few bytes = rw (le-ltb most_bytes (length line) few, not_text line bytes) refl

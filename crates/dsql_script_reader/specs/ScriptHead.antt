@@ -39,23 +39,29 @@ abbrev pub caps_of : List (List ℕ) → Option Caps
 caps_of words = let caps = caps_among words in if pointwise bytes_eq (caps_names caps) words then Some caps else None
 
 -- A position in a script: how many lines were read, and the labels that they made. And whether a version line or a caps
--- line may still follow. The labels are in the order of the lines, each with its kind.
+-- line may still follow, and whether the script is for a race. The labels are in the order of the lines, each with its
+-- kind.
 pub record Progress : Type 0 where
   pub lines : ℕ
   pub head : Head
   pub labels : List MadeLabel
+  pub race : Bool
 
 -- Returns the position after lines that made no label.
 abbrev pub progress : ℕ → Head → Progress
-progress lines head = record { lines = lines; head = head; labels = [] }
+progress lines head = record { lines = lines; head = head; labels = []; race = false }
 
 -- Returns the position after lines that each made one of these labels.
 abbrev pub progress_past : List MadeLabel → Progress
-progress_past labels = record { lines = length labels; head = Begun; labels = labels }
+progress_past labels = record { lines = length labels; head = Begun; labels = labels; race = false }
 
--- Returns the position before the first line.
+-- Returns the position before the first line of a script that is played.
 abbrev pub unread : Progress
 unread = progress 0 First
+
+-- Returns the position before the first line of a script, which is for a race if the flag is true.
+abbrev pub unread_by : Bool → Progress
+unread_by race = record unread { race = race }
 
 -- Returns which head lines may still follow the line. A version line stands before all lines except skipped
 -- ones. A caps line stands there or after the version line.
@@ -75,7 +81,10 @@ abbrev pub labels_after : List MadeLabel → ScriptLine → List MadeLabel
 labels_after labels (Client client op held) = labels ++ labels_made op
 labels_after labels _ = labels
 
--- Returns the position after one more line.
+-- Returns the position after one more line. The script stays one for a race, or one that is played.
 abbrev pub after : Progress → ScriptLine → Progress
-after before line =
-    record { lines = before.lines + 1; head = head_after before.head line; labels = labels_after before.labels line }
+after before line = record before {
+  lines = before.lines + 1;
+  head = head_after before.head line;
+  labels = labels_after before.labels line;
+}

@@ -1,5 +1,5 @@
 -- Defines what the lines of a script say, and why a line is refused.
-use Rattle.std.specs.Prelude.{ℕ, ℤ, ◌==◌, ◌||◌, Bool, List, [], ◌∷◌, length, codes, Option, Some, None, true, false, nat_lt, nat_le, if◌then◌else◌, Result, Ok, Err}
+use Rattle.std.specs.Prelude.{ℕ, ℤ, ◌==◌, ◌||◌, ◌&&◌, Bool, List, [], ◌∷◌, length, codes, Option, Some, None, true, false, nat_lt, nat_le, if◌then◌else◌, Result, Ok, Err}
 use Rattle.dsql_driver_stream.specs.declared.lines.TheConstants.{LONGEST}
 use Rattle.dsql_script_calls.specs.ScriptWords.{begins_with, limit_of, moment_of, words_of, array_of, ordinal_of, client_of}
 use Rattle.std.specs.Str.{bytes_eq, is_utf8}
@@ -142,14 +142,29 @@ form_of head (first ∷ words) array =
     else if bytes_eq first (codes "step") then step_line words array
     else client_line false first words array
 
+-- Is true if a race refuses a line of these words. A clock gives the moments of a race, and each of its clients goes on
+-- by itself. So no line sets the moment, holds a call or asks for one step.
+abbrev pub race_refuses : List (List ℕ) → Bool
+race_refuses [] = false
+race_refuses (first ∷ words) =
+    bytes_eq first (codes "tick") || bytes_eq first (codes "start") || bytes_eq first (codes "step")
+
+-- Returns a line by its words and its array. The script is for a race if the flag is true.
+abbrev pub form_by : Bool → Head → List (List ℕ) → Option (List ℕ) → Reading
+form_by race head words array = if race && race_refuses words then Err NoSuchWord else form_of head words array
+
+abbrev pub text_by : Bool → Head → List ℕ → Reading
+text_by race head text = if is_skipped text then Ok Skip else form_by race head (words_of text) (array_of text)
+
+-- Returns what a text says in a script that is played.
 abbrev pub text_of : Head → List ℕ → Reading
-text_of head text = if is_skipped text then Ok Skip else form_of head (words_of text) (array_of text)
+text_of head text = text_by false head text
 
 -- Returns what a line says if few enough lines come before it. Its labels aren't checked.
-abbrev pub line_of : Head → List ℕ → Reading
-line_of head line =
+abbrev pub line_of : Bool → Head → List ℕ → Reading
+line_of race head line =
     if nat_lt most_bytes (length line) then Err TooLong else
-    (if is_utf8 line then text_of head (strip_carriage_return line) else Err NotUtf8)
+    (if is_utf8 line then text_by race head (strip_carriage_return line) else Err NotUtf8)
 
 -- Returns how many lines a script may have.
 abbrev pub most_lines : ℕ
@@ -168,4 +183,4 @@ among_labels labels (Err fault) = Err fault
 abbrev pub read_of : Progress → List ℕ → Reading
 read_of before line =
     if nat_le most_lines before.lines then Err (TooMany Lines) else among_labels before.labels
-    (line_of before.head line)
+    (line_of before.race before.head line)

@@ -1,9 +1,9 @@
 ghost use Rattle.std.specs.Prelude.{◌≡◌, ◌≢◌, ◌≤◌, map, Ok, Err, IfOk, IfErr, OnErr};
 ghost use Rattle.std.specs.Option.{option_copied};
 ghost use Rattle.std.specs.Str.Lines.{strip_carriage_return};
-ghost use Rattle.dsql_script_reader.specs.ScriptHead.{Progress, unread, after};
+ghost use Rattle.dsql_script_reader.specs.ScriptHead.{Progress, unread_by, after};
 ghost use Rattle.dsql_script_forms.specs.Outcomes.{IsReading};
-ghost use Rattle.dsql_script_reader.specs.ScriptLines.{read_of, line_of, text_of, form_of, most_lines};
+ghost use Rattle.dsql_script_reader.specs.ScriptLines.{read_of, line_of, text_by, form_by, form_of, race_refuses, most_lines};
 
 use crate::labels::Labels;
 use crate::script::{Head, ScriptLine};
@@ -20,7 +20,7 @@ const MAX_LINES: u16 = 10_000;
 
 /// A reader that reads a script line by line. Contracts see how many lines it has read, counting skipped lines
 /// and no refused ones. They also see whether a version line or a caps line may still follow, and the labels
-/// that the lines made, each with its kind.
+/// that the lines made, each with its kind. And they see whether the script is for a race.
 ///
 /// Exactly one space separates the words of a line. If a line holds a space followed by `[`, a JSON array begins at the
 /// first such `[` and runs to the line's end. `version 1` may stand before all lines that aren't skipped. `caps` names
@@ -35,6 +35,9 @@ const MAX_LINES: u16 = 10_000;
 /// text and nothing else. A client's call is `cN` and the words of the call, with N from 1 to 64 without a leading
 /// zero. The call is held if `start` stands before them. `step cN` asks for one step of a client, and `step house` for
 /// one of the layer itself.
+///
+/// In a race each client goes on by itself, and a clock gives the moments. So no line of a race begins with `tick`,
+/// `start` or `step`.
 ///
 /// `exec T [@K]`, `one T DESTS [@K]` and `query R T [@K]` have an array of a text and at most 32 arguments. T is `db`
 /// or the label of a transaction, and K is a token, if the call names one. `exec` executes the text on T. `one` reads
@@ -65,25 +68,27 @@ pub struct Reader {
     lines: u16,
     head: Head,
     labels: Labels,
+    race: bool,
 }
 
 impl Model for Reader {
     ghost Value = { Progress };
 
-    ghost view = { λ r. record { lines = r.lines; head = r.head; labels = r.labels } };
+    ghost view = { λ r. record { lines = r.lines; head = r.head; labels = r.labels; race = r.race } };
 
     ghost invariant = { λ r. r.lines ≤ most_lines };
 }
 
 impl Reader {
-    /// Returns a reader that has read no line. It takes no memory.
-    pub fn new(alloc: Global) -> Reader
-        ensures { result ≡ unread }
+    /// Returns a reader that has read no line, of a script for a race if `race` is true. It takes no memory.
+    pub fn new(alloc: Global, race: bool) -> Reader
+        ensures { result ≡ unread_by race }
     {
         Reader {
             lines: 0,
             head: Head::First,
             labels: Labels::new(alloc),
+            race,
         }
     }
 
@@ -98,7 +103,7 @@ impl Reader {
         if self.lines >= MAX_LINES {
             return Err(LineFault::TooMany(What::Lines));
         }
-        let read = read_bytes(alloc, self.head, line)?;
+        let read = read_bytes(alloc, self.race, self.head, line)?;
         self.labels.take(alloc, &read)?;
         self.lines += 1;
         self.head = self.head.after(&read);
@@ -113,8 +118,8 @@ impl Reader {
     }
 }
 
-fn read_bytes(alloc: Global, head: Head, line: &[u8]) -> Result<ScriptLine, LineFault>
-    ensures { IsReading result (line_of head line.now) }
+fn read_bytes(alloc: Global, race: bool, head: Head, line: &[u8]) -> Result<ScriptLine, LineFault>
+    ensures { IsReading result (line_of race head line.now) }
 {
     if line.len() > LONGEST {
         return Err(LineFault::TooLong);
@@ -122,7 +127,7 @@ fn read_bytes(alloc: Global, head: Head, line: &[u8]) -> Result<ScriptLine, Line
     let Ok(text) = str::from_utf8(line) else {
         return Err(LineFault::NotUtf8);
     };
-    read_text(alloc, head, without_return(text))
+    read_text(alloc, race, head, without_return(text))
 }
 
 /// Returns the line without the one carriage return at its end, if there is one.
@@ -132,18 +137,45 @@ fn without_return(line: &str) -> &str
     line.strip_suffix('\r').unwrap_or(line)
 }
 
-fn read_text(alloc: Global, head: Head, text: &str) -> Result<ScriptLine, LineFault>
-    ensures { IsReading result (text_of head text.now) }
+fn read_text(alloc: Global, race: bool, head: Head, text: &str) -> Result<ScriptLine, LineFault>
+    ensures { IsReading result (text_by race head text.now) }
 {
     if text.is_empty() || text.starts_with('#') {
         return Ok(ScriptLine::Skip);
     }
     let (before, array) = split_array(text);
     let words = split_words(alloc, before)?;
-    read_form(alloc, head, &words, array)
+    read_words(alloc, race, head, &words, array)
 }
 
-/// Reads a line by its words and its array.
+/// Reads a line by its words and its array, unless it is of a race that refuses it.
+fn read_words(
+    alloc: Global,
+    race: bool,
+    head: Head,
+    words: &[&str],
+    array: Option<&str>,
+) -> Result<ScriptLine, LineFault>
+    ensures { IsReading result
+        (form_by race head (map (λ w. w.now) words.now) (option_copied array.entry)) }
+{
+    if race && race_refuses(words) {
+        return Err(LineFault::NoSuchWord);
+    }
+    read_form(alloc, head, words, array)
+}
+
+/// Returns whether a race refuses a line of these words.
+fn race_refuses(words: &[&str]) -> bool
+    ensures { result ≡ race_refuses (map (λ w. w.now) words.now) }
+{
+    match words {
+        [first, ..] => *first == "tick" || *first == "start" || *first == "step",
+        [] => false,
+    }
+}
+
+/// Reads a line of any form by its words and its array.
 fn read_form(
     alloc: Global,
     head: Head,

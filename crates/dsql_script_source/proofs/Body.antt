@@ -1,14 +1,13 @@
 -- After the first line that is neither skipped nor the version line, a script has no line of its head. The proof goes
 -- through the forms of a line.
-use Rattle.std.proofs.Common.{◌≡◌, ℕ, ◌+◌, Bool, true, false, List, [], ◌∷◌, length, Option, Some, None, refl, subst}
+use Rattle.std.proofs.Common.{◌≡◌, ℕ, ◌+◌, ◌&&◌, Bool, true, false, List, [], ◌∷◌, length, Option, Some, None, refl, subst}
 use Rattle.std.specs.Prelude.{ℤ, if◌then◌else◌, nat_lt, nat_le, codes, Result, Ok, Err, IfOk, IfErr, IfSome}
 use Rattle.std.specs.Str.{bytes_eq, is_utf8}
 use Rattle.std.specs.Str.Lines.{strip_carriage_return}
 use Rattle.dsql_history.specs.declared.event.Setting.{Setting}
-use Rattle.dsql_history.specs.declared.event.Setting.TheVariants.{MaxOpen, MaxIdle, MaxLife, MaxIdleTime}
 use Rattle.dsql_script_forms.specs.declared.fault.What.TheVariants.{Lines}
 use Rattle.dsql_script_forms.specs.declared.fault.LineFault.{LineFault}
-use Rattle.dsql_script_forms.specs.declared.fault.LineFault.TheVariants.{TooLong, NotUtf8, TooMany}
+use Rattle.dsql_script_forms.specs.declared.fault.LineFault.TheVariants.{TooLong, NotUtf8, NoSuchWord, TooMany}
 use Rattle.dsql_script_reader.specs.declared.script.Head.TheVariants.{Begun}
 use Rattle.dsql_script_reader.specs.declared.script.ScriptLine.{ScriptLine}
 use Rattle.dsql_script_reader.specs.declared.script.ScriptLine.TheVariants.{Skip, Version, UseCaps, StepHouse}
@@ -17,22 +16,19 @@ use Rattle.dsql_script_calls.specs.ScriptBegins.{CallReading}
 use Rattle.dsql_script_calls.specs.ScriptCalls.{call_of}
 use Rattle.dsql_script_reader.specs.ScriptHead.{Progress, after}
 use Rattle.dsql_script_reader.specs.ScriptPlans.{PlannedReading, planned_of}
-use Rattle.dsql_script_reader.specs.ScriptLines.{plan_at, plan_line, limit_alone, moment_alone, is_skipped, most_bytes, Reading, client_call, call_by_client, client_line, start_line, set_or_fault, set_line, tick_or_fault, tick_line, step_or_fault, step_line, version_line, caps_line, form_of, text_of, line_of, unless_fault, among_labels, read_of, most_lines}
+use Rattle.dsql_script_reader.specs.ScriptLines.{plan_at, plan_line, limit_alone, moment_alone, is_skipped, most_bytes, Reading, client_call, call_by_client, client_line, start_line, set_or_fault, set_line, tick_or_fault, tick_line, step_or_fault, step_line, form_of, race_refuses, form_by, text_by, line_of, unless_fault, among_labels, read_of, most_lines}
 use Rattle.dsql_script_reader.specs.ScriptLabels.{MadeLabel, line_fault}
 use Rattle.dsql_script_source.specs.Script.{Script}
 use Rattle.dsql_script_source.specs.Reading.{StopsReading, is_body, ends_head, IsBodyLine, NoLine}
 use Rattle.dsql_script_source.specs.Stops.{IsReadStop}
 use Rattle.dsql_script_source.specs.declared.stop.Stop.{Stop}
 use Rattle.dsql_script_source.specs.declared.stop.Stop.TheVariants.{Write, Full}
+use Rattle.dsql_script_source.proofs.Forms.{either, each_form}
 
 -- Holds if the reading is a line of the body, or a fault.
 abbrev pub Body : Reading → Type 0
 Body (Ok line) = is_body line ≡ true
 Body (Err fault) = Unit {0}
-
-either : (b : Bool) (x y : Reading) → Body x → Body y → Body (if b then x else y)
-either true x y h k = h
-either false x y h k = k
 
 body_client_call : (held : Bool) (client : ℕ) (call : CallReading) → Body (client_call held client call)
 body_client_call held client (Ok op) = refl
@@ -83,40 +79,25 @@ body_step (Some client) = refl
 body_step_line : (words : List (List ℕ)) (array : Option (List ℕ)) → Body (step_line words array)
 body_step_line words (Some array) = tt
 body_step_line [] None = tt
-body_step_line (who ∷ []) None = either (bytes_eq who (codes "house")) (Ok StepHouse) (step_or_fault (client_of who)) refl (body_step (client_of who))
+body_step_line (who ∷ []) None = either Body (bytes_eq who (codes "house")) (Ok StepHouse) (step_or_fault (client_of who)) (λ house. refl) (λ other. body_step (client_of who))
 body_step_line (who ∷ more ∷ words) None = tt
 
 body_form_of : (words : List (List ℕ)) (array : Option (List ℕ)) → Body (form_of Begun words array)
 body_form_of [] array = tt
 body_form_of (first ∷ words) array =
-    let client = client_line false first words array in
-    let step = if bytes_eq first (codes "step") then step_line words array else client in
-    let start = if bytes_eq first (codes "start") then start_line words array else step in
-    let plan = if bytes_eq first (codes "fault") then plan_line words array else start in
-    let tick = if bytes_eq first (codes "tick") then tick_line words array else plan in
-    let idle_time = if bytes_eq first (codes "maxidletime") then set_line MaxIdleTime words array else tick in
-    let life = if bytes_eq first (codes "maxlife") then set_line MaxLife words array else idle_time in
-    let idle = if bytes_eq first (codes "maxidle") then set_line MaxIdle words array else life in
-    let limits = if bytes_eq first (codes "maxopen") then set_line MaxOpen words array else idle in
-    let caps = if bytes_eq first (codes "caps") then caps_line Begun words array else limits in
-    either (bytes_eq first (codes "version")) (version_line Begun words array) caps tt
-    (either (bytes_eq first (codes "caps")) (caps_line Begun words array) limits tt
-    (either (bytes_eq first (codes "maxopen")) (set_line MaxOpen words array) idle (body_set_line MaxOpen words array)
-    (either (bytes_eq first (codes "maxidle")) (set_line MaxIdle words array) life (body_set_line MaxIdle words array)
-    (either (bytes_eq first (codes "maxlife")) (set_line MaxLife words array) idle_time (body_set_line MaxLife words array)
-    (either (bytes_eq first (codes "maxidletime")) (set_line MaxIdleTime words array) tick (body_set_line MaxIdleTime words array)
-    (either (bytes_eq first (codes "tick")) (tick_line words array) plan (body_tick_line words array)
-    (either (bytes_eq first (codes "fault")) (plan_line words array) start (body_plan_line words array)
-    (either (bytes_eq first (codes "start")) (start_line words array) step (body_start_line words array)
-    (either (bytes_eq first (codes "step")) (step_line words array) client (body_step_line words array) (body_client_line false first words array))))))))))
+    each_form Body Begun first words array tt tt (λ setting. body_set_line setting words array) (λ is. body_tick_line words array) (body_plan_line words array)
+    (λ is. body_start_line words array) (λ is. body_step_line words array) (body_client_line false first words array)
 
-body_text : (text : List ℕ) → Body (text_of Begun text)
-body_text text = either (is_skipped text) (Ok Skip) (form_of Begun (words_of text) (array_of text)) refl (body_form_of (words_of text) (array_of text))
+body_form_by : (race : Bool) (words : List (List ℕ)) (array : Option (List ℕ)) → Body (form_by race Begun words array)
+body_form_by race words array = either Body (race && race_refuses words) (Err NoSuchWord) (form_of Begun words array) (λ refused. tt) (λ taken. body_form_of words array)
 
-body_line : (line : List ℕ) → Body (line_of Begun line)
-body_line line =
-    either (nat_lt most_bytes (length line)) (Err TooLong) (if is_utf8 line then text_of Begun (strip_carriage_return line) else Err NotUtf8) tt
-    (either (is_utf8 line) (text_of Begun (strip_carriage_return line)) (Err NotUtf8) (body_text (strip_carriage_return line)) tt)
+body_text : (race : Bool) (text : List ℕ) → Body (text_by race Begun text)
+body_text race text = either Body (is_skipped text) (Ok Skip) (form_by race Begun (words_of text) (array_of text)) (λ skipped. refl) (λ other. body_form_by race (words_of text) (array_of text))
+
+body_line : (race : Bool) (line : List ℕ) → Body (line_of race Begun line)
+body_line race line =
+    either Body (nat_lt most_bytes (length line)) (Err TooLong) (if is_utf8 line then text_by race Begun (strip_carriage_return line) else Err NotUtf8) (λ long. tt)
+    (λ short. either Body (is_utf8 line) (text_by race Begun (strip_carriage_return line)) (Err NotUtf8) (λ text. body_text race (strip_carriage_return line)) (λ bytes. tt))
 
 -- Checking the labels of a line of the body leaves it a line of the body.
 body_unless_fault : (line : ScriptLine) (fault : Option LineFault) → is_body line ≡ true → Body (unless_fault line fault)
@@ -130,8 +111,8 @@ body_among_labels labels (Err fault) body = tt
 body_read : (place : Progress) (line : List ℕ) → place.head ≡ Begun → Body (read_of place line)
 body_read place line is =
     rw is
-    (either (nat_le most_lines place.lines) (Err (TooMany Lines)) (among_labels place.labels (line_of Begun line)) tt
-    (body_among_labels place.labels (line_of Begun line) (body_line line)))
+    (either Body (nat_le most_lines place.lines) (Err (TooMany Lines)) (among_labels place.labels (line_of place.race Begun line)) (λ full. tt)
+    (λ room. body_among_labels place.labels (line_of place.race Begun line) (body_line place.race line)))
 
 pub body_lines : (place : Progress) (line : List ℕ) (says : ScriptLine) → place.head ≡ Begun → read_of place line ≡ Ok says → is_body says ≡ true
 body_lines place line says is reads = subst Body reads (body_read place line is)

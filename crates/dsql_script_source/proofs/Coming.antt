@@ -1,6 +1,6 @@
 -- What the rest of a script says after one more line was read. The proof has a case for a line, for the script's end,
 -- and for a stop.
-use Rattle.std.proofs.Common.{◌≡◌, ◌⊎◌, ◌∙◌, inl, inr, ℕ, ◌+◌, true, false, List, [], ◌∷◌, ◌++◌, length, Option, Some, None, refl, ap, sym, arith}
+use Rattle.std.proofs.Common.{◌≡◌, ◌⊎◌, ◌∙◌, inl, inr, ℕ, ◌+◌, Bool, true, false, List, [], ◌∷◌, ◌++◌, length, Option, Some, None, refl, ap, sym, arith}
 use Rattle.std.specs.Prelude.{option_map, IfSome, IfOk, IfErr, Result, Ok, Err}
 use Rattle.std.proofs.lemmas.List.{length-append}
 use Rattle.std.proofs.lemmas.Option.{same_Some}
@@ -12,9 +12,9 @@ use Rattle.dsql_script_reader.specs.declared.script.ScriptLine.TheVariants.{Skip
 use Rattle.dsql_script_reader.specs.ScriptHead.{Progress, after}
 use Rattle.dsql_script_reader.specs.ScriptLines.{read_of}
 use Rattle.dsql_script_source.specs.Position.{Position}
-use Rattle.dsql_script_source.specs.Script.{Script, Said, nothing, line_as_played, said_of, then, is_silent, script_of, whole, refused_at, with_said, SaysFirst}
-use Rattle.dsql_script_source.specs.Plays.{ReadsUpTo, Plays}
-use Rattle.dsql_script_source.specs.Reading.{HasRead, ReadTo, ReadsOn, TakesLine, DropsUnfinished, StopsReading, NoLine, came, to_come, is_body}
+use Rattle.dsql_script_source.specs.Script.{Script, Said, nothing, line_as_played, said_of, then, is_silent, script_by, whole, refused_at, with_said, SaysFirstBy}
+use Rattle.dsql_script_source.specs.Plays.{ReadsUpToBy, PlaysBy}
+use Rattle.dsql_script_source.specs.Reading.{HasReadBy, ReadToBy, ReadsOn, TakesLine, DropsUnfinished, StopsReading, NoLine, came, to_come, is_body}
 use Rattle.dsql_script_source.specs.declared.stop.Stop.{Stop}
 use Rattle.dsql_script_source.specs.declared.stop.Stop.TheVariants.{Read, Memory, Refused}
 use Rattle.dsql_script_source.proofs.Saying.{then-nothing, with_both, silent_then}
@@ -27,40 +27,40 @@ script_goes_on all before None says line is reads = is ∙ rw reads refl
 script_goes_on all before (Some s) says line is reads = is ∙ rw reads (ap Some (with_both says (said_of line) s))
 
 -- At the script's end, the lines so far say all that the script says.
-script_ends : (left rest : Option (List ℕ)) (before : Option Script) (says : Said) → option_map script_of left ≡ option_map (with_said says) before → IfSome before (λ s. s ≡ whole nothing) → Plays (Ok tt) left rest says
-script_ends None rest before says is reads = tt
-script_ends (Some bytes) rest None says is reads = absurd (cc is)
-script_ends (Some bytes) rest (Some s) says is reads = same_Some _ _ is ∙ rw reads (ap whole (then-nothing says))
+script_ends : (race : Bool) (left rest : Option (List ℕ)) (before : Option Script) (says : Said) → option_map (script_by race) left ≡ option_map (with_said says) before → IfSome before (λ s. s ≡ whole nothing) → PlaysBy race (Ok tt) left rest says
+script_ends race None rest before says is reads = tt
+script_ends race (Some bytes) rest None says is reads = absurd (cc is)
+script_ends race (Some bytes) rest (Some s) says is reads = same_Some _ _ is ∙ rw reads (ap whole (then-nothing says))
 
 -- Holds if the lines so far are silent or the rest of the script has no caps line.
 abbrev pub NoneToCome : Said → Option Script → Type 0
 NoneToCome says before = (is_silent says ≡ true) ⊎ IfSome before (λ s. s.says.caps ≡ None)
 
-none_more : (before : Option (List ℕ)) (reader : Position) (left : Option (List ℕ)) (says : Said) → HasRead before reader left says → NoneToCome says (to_come reader left)
-none_more before reader left says h = none_to_come reader.reader (option_map all_lines (ahead reader.lines left)) says h.begun
+none_more : (race : Bool) (before : Option (List ℕ)) (reader : Position) (left : Option (List ℕ)) (says : Said) → HasReadBy race before reader left says → NoneToCome says (to_come reader left)
+none_more race before reader left says h = none_to_come reader.reader (option_map all_lines (ahead reader.lines left)) says h.begun
 
-first_said : (left : Option (List ℕ)) (before : Option Script) (says : Said) → option_map script_of left ≡ option_map (with_said says) before → NoneToCome says before → SaysFirst left says
-first_said None before says is none = tt
-first_said (Some bytes) None says is none = absurd (cc is)
-first_said (Some bytes) (Some s) says is none = record { rest = s.says; parts = ap (λ t. t.says) (same_Some _ _ is); asked = none }
+first_said : (race : Bool) (left : Option (List ℕ)) (before : Option Script) (says : Said) → option_map (script_by race) left ≡ option_map (with_said says) before → NoneToCome says before → SaysFirstBy race left says
+first_said race None before says is none = tt
+first_said race (Some bytes) None says is none = absurd (cc is)
+first_said race (Some bytes) (Some s) says is none = record { rest = s.says; parts = ap (λ t. t.says) (same_Some _ _ is); asked = none }
 
-refused_said : (left rest : Option (List ℕ)) (before : Option Script) (says : Said) (number : ℕ) (fault : LineFault)
-    → option_map script_of left ≡ option_map (with_said says) before → IfSome before (λ s. s ≡ refused_at number fault) → Plays (Err (Refused number fault)) left rest says
-refused_said None rest before says number fault is at = tt
-refused_said (Some bytes) rest None says number fault is at = absurd (cc is)
-refused_said (Some bytes) rest (Some s) says number fault is at = same_Some _ _ is ∙ rw at (ap (λ said. record { says = said; refused = Some (number, fault) }) (then-nothing says))
+refused_said : (race : Bool) (left rest : Option (List ℕ)) (before : Option Script) (says : Said) (number : ℕ) (fault : LineFault)
+    → option_map (script_by race) left ≡ option_map (with_said says) before → IfSome before (λ s. s ≡ refused_at number fault) → PlaysBy race (Err (Refused number fault)) left rest says
+refused_said race None rest before says number fault is at = tt
+refused_said race (Some bytes) rest None says number fault is at = absurd (cc is)
+refused_said race (Some bytes) rest (Some s) says number fault is at = same_Some _ _ is ∙ rw at (ap (λ said. record { says = said; refused = Some (number, fault) }) (then-nothing says))
 
 -- A script begins with what the lines that were read so far say.
-pub first_of_read_so_far : (before : Option (List ℕ)) (reader : Position) (left : Option (List ℕ)) (says : Said) → HasRead before reader left says → SaysFirst before says
-first_of_read_so_far before reader left says h = first_said before (to_come reader left) says h.script (none_more before reader left says h)
+pub first_of_read_so_far : {race : Bool} (before : Option (List ℕ)) (reader : Position) (left : Option (List ℕ)) (says : Said) → HasReadBy race before reader left says → SaysFirstBy race before says
+first_of_read_so_far {race} before reader left says h = first_said race before (to_come reader left) says h.script (none_more race before reader left says h)
 
 -- If no line could be read, the lines so far say what a run that stops there has of the script.
-script_stops : (left rest : Option (List ℕ)) (before : Option Script) (says : Said) (stop : Stop)
-    → option_map script_of left ≡ option_map (with_said says) before → NoneToCome says before → StopsReading before stop → (stop ≡ Read → IfSome left (λ bytes. ReadsUpTo bytes rest says)) → Plays (Err stop) left rest says
-script_stops left rest before says Read is none stops read = read refl
-script_stops left rest before says Memory is none stops read = first_said left before says is none
-script_stops left rest before says (Refused number fault) is none stops read = refused_said left rest before says number fault is stops
-script_stops left rest before says _ is none stops read = absurd stops
+script_stops : (race : Bool) (left rest : Option (List ℕ)) (before : Option Script) (says : Said) (stop : Stop)
+    → option_map (script_by race) left ≡ option_map (with_said says) before → NoneToCome says before → StopsReading before stop → (stop ≡ Read → IfSome left (λ bytes. ReadsUpToBy race bytes rest says)) → PlaysBy race (Err stop) left rest says
+script_stops race left rest before says Read is none stops read = read refl
+script_stops race left rest before says Memory is none stops read = first_said race left before says is none
+script_stops race left rest before says (Refused number fault) is none stops read = refused_said race left rest before says number fault is stops
+script_stops race left rest before says _ is none stops read = absurd stops
 
 -- After one more line, the head has ended or all lines so far are silent.
 begun_on : (says : Said) (old new : Progress) (line : ScriptLine) → (is_silent says ≡ true) ⊎ (old.head ≡ Begun) → (old.head ≡ Begun → is_body line ≡ true) → new ≡ after old line
@@ -89,32 +89,32 @@ one_more_line says line old new counted placed =
     let now : new.lines ≡ old.lines + 1 = ap (λ (p : Progress). p.lines) placed in
     omega (arith, more, now, counted)
 
-read_a_line : (before : Option (List ℕ)) (old new : Position) (left rest : Option (List ℕ)) (bytes : List ℕ) (says : Said) (line : ScriptLine) → HasRead before old left says → TakesNext (Ok (Some line)) old new left rest bytes
-    → HasRead before new rest (then says (said_of line))
-read_a_line before old new left rest bytes says line h t = record {
-  script = script_goes_on (option_map script_of before) (to_come old left) (to_come new rest) says line h.script t.read;
-  lines = reads_line old.lines.ended new.lines.ended before (ahead old.lines left) (ahead new.lines rest) bytes old.reader new.reader line says t.ended h.lines t.taken t.placed;
+read_a_line : (race : Bool) (before : Option (List ℕ)) (old new : Position) (left rest : Option (List ℕ)) (bytes : List ℕ) (says : Said) (line : ScriptLine) → HasReadBy race before old left says → TakesNext (Ok (Some line)) old new left rest bytes
+    → HasReadBy race before new rest (then says (said_of line))
+read_a_line race before old new left rest bytes says line h t = record {
+  script = script_goes_on (option_map (script_by race) before) (to_come old left) (to_come new rest) says line h.script t.read;
+  lines = reads_line race old.lines.ended new.lines.ended before (ahead old.lines left) (ahead new.lines rest) bytes old.reader new.reader line says t.ended h.lines t.taken t.placed;
   begun = begun_on says old.reader new.reader line h.begun (λ begun. body_lines old.reader bytes line begun t.is) t.placed;
   sees = t.sees h.sees;
   counted = one_more_line says line old.reader new.reader h.counted t.placed;
 }
 
-read_no_line : (before : Option (List ℕ)) (old new : Position) (left rest : Option (List ℕ)) (bytes : List ℕ) (says : Said) (stop : Stop) → HasRead before old left says → TakesNext (Err stop) old new left rest bytes
-    → Plays (Err stop) before rest says
-read_no_line before old new left rest bytes says stop h t =
-    script_stops before rest (to_come old left) says stop h.script (none_more before old left says h) t.stopped
-    (λ read. reads_up_to old.lines.ended before (ahead old.lines left) rest bytes old.reader says h.lines (t.dropped (ap Err read)))
+read_no_line : (race : Bool) (before : Option (List ℕ)) (old new : Position) (left rest : Option (List ℕ)) (bytes : List ℕ) (says : Said) (stop : Stop) → HasReadBy race before old left says → TakesNext (Err stop) old new left rest bytes
+    → PlaysBy race (Err stop) before rest says
+read_no_line race before old new left rest bytes says stop h t =
+    script_stops race before rest (to_come old left) says stop h.script (none_more race before old left says h) t.stopped
+    (λ read. reads_up_to race old.lines.ended before (ahead old.lines left) rest bytes old.reader says h.lines (t.dropped (ap Err read)))
 
--- The reader has then read what `ReadTo` says, whatever the result was.
-pub reads_to : (result : Result (Option ScriptLine) Stop) (before : Option (List ℕ)) (old new : Position) (left rest : Option (List ℕ)) (bytes : List ℕ) (says : Said) → HasRead before old left says → TakesNext result old new left rest bytes
-    → ReadTo result before new rest says
-reads_to (Ok (Some line)) before old new left rest bytes says h t = read_a_line before old new left rest bytes says line h t
-reads_to (Ok None) before old new left rest bytes says h t = (script_ends before rest (to_come old left) says h.script t.read, t.end refl h.sees)
-reads_to (Err stop) before old new left rest bytes says h t = read_no_line before old new left rest bytes says stop h t
+-- The reader has then read what `ReadToBy` says, whatever the result was.
+pub reads_to : (race : Bool) (result : Result (Option ScriptLine) Stop) (before : Option (List ℕ)) (old new : Position) (left rest : Option (List ℕ)) (bytes : List ℕ) (says : Said) → HasReadBy race before old left says → TakesNext result old new left rest bytes
+    → ReadToBy race result before new rest says
+reads_to race (Ok (Some line)) before old new left rest bytes says h t = read_a_line race before old new left rest bytes says line h t
+reads_to race (Ok None) before old new left rest bytes says h t = (script_ends race before rest (to_come old left) says h.script t.read, t.end refl h.sees)
+reads_to race (Err stop) before old new left rest bytes says h t = read_no_line race before old new left rest bytes says stop h t
 
 -- The number of lines read grows by the one line of the result, if there is one.
-pub counts_to : (result : Result (Option ScriptLine) Stop) (before : Option (List ℕ)) (old new : Position) (left : Option (List ℕ)) (says : Said) → HasRead before old left says
+pub counts_to : (race : Bool) (result : Result (Option ScriptLine) Stop) (before : Option (List ℕ)) (old new : Position) (left : Option (List ℕ)) (says : Said) → HasReadBy race before old left says
     → IfOk result (λ one. IfSome one (λ line. new.reader ≡ after old.reader line)) → NoLine result old.reader new.reader → length says.lines + came result ≡ new.reader.lines
-counts_to (Ok (Some line)) before old new left says h placed stays = ap (λ k. k + 1) h.counted ∙ sym (ap (λ (p : Progress). p.lines) placed)
-counts_to (Ok None) before old new left says h placed stays = let same = ap (λ (p : Progress). p.lines) stays in let counted = h.counted in omega (arith, same, counted)
-counts_to (Err stop) before old new left says h placed stays = let same = ap (λ (p : Progress). p.lines) stays in let counted = h.counted in omega (arith, same, counted)
+counts_to race (Ok (Some line)) before old new left says h placed stays = ap (λ k. k + 1) h.counted ∙ sym (ap (λ (p : Progress). p.lines) placed)
+counts_to race (Ok None) before old new left says h placed stays = let same = ap (λ (p : Progress). p.lines) stays in let counted = h.counted in omega (arith, same, counted)
+counts_to race (Err stop) before old new left says h placed stays = let same = ap (λ (p : Progress). p.lines) stays in let counted = h.counted in omega (arith, same, counted)

@@ -91,9 +91,9 @@ no_fault labels (Ok line) s is = by (line_fault labels line) refl is
 pub learns : (before : Progress) (line : List ℕ) (s : ScriptLine) → read_of before line ≡ Ok s → LearnsLabel (Some s) before (after before s)
 learns before line s is label = line_learns before s (by (nat_le most_lines before.lines) is) label
   where
-    by : (b : Bool) → (if b then Err (TooMany Lines) else among_labels before.labels (line_of before.head line)) ≡ Ok s → line_fault before.labels s ≡ None
+    by : (b : Bool) → (if b then Err (TooMany Lines) else among_labels before.labels (line_of before.race before.head line)) ≡ Ok s → line_fault before.labels s ≡ None
     by true h = absurd cc
-    by false h = no_fault before.labels (line_of before.head line) s h
+    by false h = no_fault before.labels (line_of before.race before.head line) s h
 
 -- A line that is read after lines that make no label makes its label as if it were the first.
 pub learned_then : (read : Option ScriptLine) (first before now : Progress) → before.labels ≡ first.labels → LearnsLabel read before now → LearnsLabel read first now

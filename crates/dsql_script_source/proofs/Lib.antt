@@ -1,8 +1,11 @@
 pub mod Errors
 pub mod Saying
+pub mod Forms
 pub mod Body
+pub mod Racing
 pub mod Reading
 pub mod WholeLines
 pub mod Coming
 pub mod Heading
 pub mod Learning
+pub mod WholeScript

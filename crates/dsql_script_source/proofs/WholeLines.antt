@@ -8,10 +8,10 @@ use Rattle.dsql_driver_stream.proofs.EndedLines.{ended_lines-feed, ended_lines-f
 use Rattle.dsql_script_reader.specs.declared.script.ScriptLine.{ScriptLine}
 use Rattle.dsql_script_reader.specs.declared.script.ScriptLine.TheVariants.{Skip, Version}
 use Rattle.dsql_script_reader.specs.declared.script.Head.TheVariants.{Begun}
-use Rattle.dsql_script_reader.specs.ScriptHead.{Progress, unread, after}
+use Rattle.dsql_script_reader.specs.ScriptHead.{Progress, unread_by, after}
 use Rattle.dsql_script_reader.specs.ScriptLines.{Reading, read_of}
-use Rattle.dsql_script_source.specs.Script.{Script, Said, nothing, said_of, then, script_of, script_from, whole, with_line, with_said, is_silent, BeginsSaying}
-use Rattle.dsql_script_source.specs.Plays.{ReadsUpTo}
+use Rattle.dsql_script_source.specs.Script.{Script, Said, nothing, said_of, then, script_by, script_from, whole, with_line, with_said, is_silent, BeginsSaying}
+use Rattle.dsql_script_source.specs.Plays.{ReadsUpToBy}
 use Rattle.dsql_script_source.specs.Reading.{with_feeds, AllFeedless, TakesLine, DropsUnfinished, is_body, after_lines, after_reading, LinesRead, ReadSoFar}
 use Rattle.dsql_script_source.proofs.Saying.{then-nothing, with_both, with_nothing, body_asks_none, silent_then}
 use Rattle.dsql_script_source.proofs.Body.{body_lines, stays_begun}
@@ -75,35 +75,35 @@ after_lines-append p (first ∷ lines) line says one is reads =
     let reads_next : read_of (after_lines next lines) line ≡ Ok one = rw taken.is at reads in
     rw taken.is (after_lines-append next lines line (script_from next lines).says one taken.others reads_next)
 
-one_more_line : (bytes rest next line : List ℕ) (place : Progress) (one : ScriptLine) (says : Said) → LinesRead bytes rest place says → Feedless line → rest ≡ (line ++ 10 ∷ []) ++ next → read_of place line ≡ Ok one
-    → LinesRead bytes next (after place one) (then says (said_of one))
-one_more_line bytes rest next line place one says r feedless taken reads =
-    let reads_here : read_of (after_lines unread r.lines) line ≡ Ok one = rw r.placed at reads in
+one_more_line : (race : Bool) (bytes rest next line : List ℕ) (place : Progress) (one : ScriptLine) (says : Said) → LinesRead race bytes rest place says → Feedless line → rest ≡ (line ++ 10 ∷ []) ++ next → read_of place line ≡ Ok one
+    → LinesRead race bytes next (after place one) (then says (said_of one))
+one_more_line race bytes rest next line place one says r feedless taken reads =
+    let reads_here : read_of (after_lines (unread_by race) r.lines) line ≡ Ok one = rw r.placed at reads in
     record {
       lines = r.lines ++ line ∷ [];
       feedless = feedless-append r.lines line r.feedless feedless;
       parts = r.parts ∙ rw (taken, with_feeds-append r.lines line) (sym (append_assoc (with_feeds r.lines) (line ++ 10 ∷ []) next));
-      are = script_from-append unread r.lines (line ∷ []) says r.are ∙ ap (with_said says) (one_line (after_lines unread r.lines) line one reads_here);
-      placed = rw r.placed (sym (after_lines-append unread r.lines line says one r.are reads_here));
+      are = script_from-append (unread_by race) r.lines (line ∷ []) says r.are ∙ ap (with_said says) (one_line (after_lines (unread_by race) r.lines) line one reads_here);
+      placed = rw r.placed (sym (after_lines-append (unread_by race) r.lines line says one r.are reads_here));
     }
 
-line_taken : (before old new : Option (List ℕ)) (line : List ℕ) (place : Progress) (one : ScriptLine) (says : Said) → ReadSoFar false before old place says → TakesLine place line one old new → ReadSoFar false before new (after place one) (then says (said_of one))
-line_taken None old new line place one says r t = tt
-line_taken (Some bytes) None new line place one says r t = absurd r
-line_taken (Some bytes) (Some rest) None line place one says r t = absurd (cc t.taken)
-line_taken (Some bytes) (Some rest) (Some next) line place one says r t = one_more_line bytes rest next line place one says r t.feedless (same_Some _ _ t.taken) t.is
+line_taken : (race : Bool) (before old new : Option (List ℕ)) (line : List ℕ) (place : Progress) (one : ScriptLine) (says : Said) → ReadSoFar race false before old place says → TakesLine place line one old new → ReadSoFar race false before new (after place one) (then says (said_of one))
+line_taken race None old new line place one says r t = tt
+line_taken race (Some bytes) None new line place one says r t = absurd r
+line_taken race (Some bytes) (Some rest) None line place one says r t = absurd (cc t.taken)
+line_taken race (Some bytes) (Some rest) (Some next) line place one says r t = one_more_line race bytes rest next line place one says r t.feedless (same_Some _ _ t.taken) t.is
 
 -- After one more line was taken out, the lines read so far are still whole lines of the script, none of them
 -- refused.
-pub reads_line : (was is : Bool) (before old new : Option (List ℕ)) (line : List ℕ) (place now : Progress) (one : ScriptLine) (says : Said) → (was ≡ true → is ≡ true) → ReadSoFar was before old place says
-    → (is ≡ false → TakesLine place line one old new) → now ≡ after place one → ReadSoFar is before new now (then says (said_of one))
-reads_line was true before old new line place now one says stays r taken placed = tt
-reads_line true false before old new line place now one says stays r taken placed = absurd (cc (stays refl))
-reads_line false false before old new line place now one says stays r taken placed = rw placed (line_taken before old new line place one says r (taken refl))
+pub reads_line : (race was is : Bool) (before old new : Option (List ℕ)) (line : List ℕ) (place now : Progress) (one : ScriptLine) (says : Said) → (was ≡ true → is ≡ true) → ReadSoFar race was before old place says
+    → (is ≡ false → TakesLine place line one old new) → now ≡ after place one → ReadSoFar race is before new now (then says (said_of one))
+reads_line race was true before old new line place now one says stays r taken placed = tt
+reads_line race true false before old new line place now one says stays r taken placed = absurd (cc (stays refl))
+reads_line race false false before old new line place now one says stays r taken placed = rw placed (line_taken race before old new line place one says r (taken refl))
 
 -- If the source fails in an unfinished line, the bytes read are the whole lines and the part of that line.
-read_up_to : (bytes rest unfinished next : List ℕ) (n : Progress) (says : Said) → LinesRead bytes rest n says → Feedless unfinished → rest ≡ unfinished ++ next → ReadsUpTo bytes (Some next) says
-read_up_to bytes rest unfinished next n says r feedless taken = record {
+read_up_to : (race : Bool) (bytes rest unfinished next : List ℕ) (n : Progress) (says : Said) → LinesRead race bytes rest n says → Feedless unfinished → rest ≡ unfinished ++ next → ReadsUpToBy race bytes (Some next) says
+read_up_to race bytes rest unfinished next n says r feedless taken = record {
   read = with_feeds r.lines ++ unfinished;
   rest = next;
   left = refl;
@@ -111,19 +111,19 @@ read_up_to bytes rest unfinished next n says r feedless taken = record {
   lines = rw (ended_lines-with_feeds r.lines unfinished r.feedless feedless) r.are;
 }
 
-stops_unended : (before old left : Option (List ℕ)) (line : List ℕ) (n : Progress) (calls : Said) → ReadSoFar false before old n calls → Feedless line → TakesOff line old left → IfSome before (λ bytes. ReadsUpTo bytes left calls)
-stops_unended None old left line n calls r feedless taken = tt
-stops_unended (Some bytes) None left line n calls r feedless taken = absurd r
-stops_unended (Some bytes) (Some rest) None line n calls r feedless taken = absurd (cc taken)
-stops_unended (Some bytes) (Some rest) (Some next) line n calls r feedless taken = read_up_to bytes rest line next n calls r feedless (same_Some _ _ taken)
+stops_unended : (race : Bool) (before old left : Option (List ℕ)) (line : List ℕ) (n : Progress) (calls : Said) → ReadSoFar race false before old n calls → Feedless line → TakesOff line old left → IfSome before (λ bytes. ReadsUpToBy race bytes left calls)
+stops_unended race None old left line n calls r feedless taken = tt
+stops_unended race (Some bytes) None left line n calls r feedless taken = absurd r
+stops_unended race (Some bytes) (Some rest) None line n calls r feedless taken = absurd (cc taken)
+stops_unended race (Some bytes) (Some rest) (Some next) line n calls r feedless taken = read_up_to race bytes rest line next n calls r feedless (same_Some _ _ taken)
 
-pub reads_up_to : (ended : Bool) (before old left : Option (List ℕ)) (line : List ℕ) (n : Progress) (calls : Said) → ReadSoFar ended before old n calls → DropsUnfinished ended line old left → IfSome before (λ bytes. ReadsUpTo bytes left calls)
-reads_up_to true before old left line n calls r d = absurd (cc d.running)
-reads_up_to false before old left line n calls r d = stops_unended before old left line n calls r d.feedless d.taken
+pub reads_up_to : (race ended : Bool) (before old left : Option (List ℕ)) (line : List ℕ) (n : Progress) (calls : Said) → ReadSoFar race ended before old n calls → DropsUnfinished ended line old left → IfSome before (λ bytes. ReadsUpToBy race bytes left calls)
+reads_up_to race true before old left line n calls r d = absurd (cc d.running)
+reads_up_to race false before old left line n calls r d = stops_unended race before old left line n calls r d.feedless d.taken
 
-script_parts : (bytes read rest : List ℕ) (more : List (List ℕ)) (says : Said) → bytes ≡ read ++ rest → all_lines (read ++ rest) ≡ ended_lines read ++ more → script_from unread (ended_lines read) ≡ whole says
-    → script_of bytes ≡ with_said says (script_from (after_lines unread (ended_lines read)) more)
-script_parts bytes read rest more says parts lines are = ap script_of parts ∙ ap (script_from unread) lines ∙ script_from-append unread (ended_lines read) more says are
+script_parts : (race : Bool) (bytes read rest : List ℕ) (more : List (List ℕ)) (says : Said) → bytes ≡ read ++ rest → all_lines (read ++ rest) ≡ ended_lines read ++ more → script_from (unread_by race) (ended_lines read) ≡ whole says
+    → script_by race bytes ≡ with_said says (script_from (after_lines (unread_by race) (ended_lines read)) more)
+script_parts race bytes read rest more says parts lines are = ap (script_by race) parts ∙ ap (script_from (unread_by race)) lines ∙ script_from-append (unread_by race) (ended_lines read) more says are
 
 -- After a line that ends the head of a script, no line asks for anything.
 
@@ -174,14 +174,14 @@ asked_behind place lines says (inl e) = inl e
 asked_behind place lines says (inr begun) = inr (none_asked place lines begun)
 
 -- A script begins with what its lines that were read whole say.
-pub first_of_read : (bytes : List ℕ) (left : Option (List ℕ)) (says : Said) → ReadsUpTo bytes left says → BeginsSaying says (script_of bytes).says
-first_of_read bytes left says r =
+pub first_of_read : {race : Bool} (bytes : List ℕ) (left : Option (List ℕ)) (says : Said) → ReadsUpToBy race bytes left says → BeginsSaying says (script_by race bytes).says
+first_of_read {race} bytes left says r =
     let more = first_of_ended r.read r.rest in
-    let place = after_lines unread (ended_lines r.read) in
+    let place = after_lines (unread_by race) (ended_lines r.read) in
     record {
       rest = (script_from place more.0).says;
-      parts = ap (λ (s : Script). s.says) (script_parts bytes r.read r.rest more.0 says r.parts more.1 r.lines);
-      asked = asked_behind place more.0 says (head_ended unread (ended_lines r.read) says r.lines);
+      parts = ap (λ (s : Script). s.says) (script_parts race bytes r.read r.rest more.0 says r.parts more.1 r.lines);
+      asked = asked_behind place more.0 says (head_ended (unread_by race) (ended_lines r.read) says r.lines);
     }
 
 -- After lines that aren't silent, the rest of a script asks for nothing.

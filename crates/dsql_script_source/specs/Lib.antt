@@ -1,5 +1,6 @@
 pub mod Script
 pub mod Naming
+pub mod Racing
 pub mod Stops
 pub mod Reading
 pub mod Plays

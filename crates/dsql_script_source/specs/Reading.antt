@@ -8,11 +8,11 @@ use Rattle.dsql_driver_stream.specs.Lines.{all_lines, ahead, SawTheEnd, TakesOff
 use Rattle.dsql_script_reader.specs.declared.script.ScriptLine.{ScriptLine}
 use Rattle.dsql_script_reader.specs.declared.script.ScriptLine.TheVariants.{Skip, Version, UseCaps}
 use Rattle.dsql_script_reader.specs.declared.script.Head.TheVariants.{Begun}
-use Rattle.dsql_script_reader.specs.ScriptHead.{Progress, unread, after}
+use Rattle.dsql_script_reader.specs.ScriptHead.{Progress, unread_by, after}
 use Rattle.dsql_script_reader.specs.ScriptLines.{Reading, read_of, most_lines}
 use Rattle.dsql_script_source.specs.Position.{Position}
-use Rattle.dsql_script_source.specs.Script.{Script, Said, nothing, then, script_of, script_from, whole, refused_at, with_said, said_of, is_silent, is_skip}
-use Rattle.dsql_script_source.specs.Plays.{Plays, saying}
+use Rattle.dsql_script_source.specs.Script.{Script, Said, nothing, then, script_by, script_from, whole, refused_at, with_said, said_of, is_silent, is_skip}
+use Rattle.dsql_script_source.specs.Plays.{PlaysBy, saying}
 use Rattle.dsql_script_source.specs.Stops.{IsReadStop}
 use Rattle.dsql_script_source.specs.declared.stop.Stop.{Stop}
 use Rattle.dsql_script_source.specs.declared.stop.Stop.TheVariants.{Write, Memory, Refused, Full}
@@ -96,30 +96,37 @@ abbrev pub after_lines : Progress → List (List ℕ) → Progress
 after_lines before [] = before
 after_lines before (line ∷ lines) = after_reading before (read_of before line) (λ next. after_lines next lines)
 
--- Holds if the bytes that were taken out are whole lines, and none of them is refused.
-pub record LinesRead (bytes rest : List ℕ) (place : Progress) (says : Said) : Type 0 where
+-- Holds if the bytes that were taken out are whole lines, and none of them is refused. The script is for a race if the
+-- flag is true.
+pub record LinesRead (race : Bool) (bytes rest : List ℕ) (place : Progress) (says : Said) : Type 0 where
   pub lines : List (List ℕ)
   pub feedless : AllFeedless lines
   pub parts : bytes ≡ with_feeds lines ++ rest
-  pub are : script_from unread lines ≡ whole says
-  pub placed : place ≡ after_lines unread lines
+  pub are : script_from (unread_by race) lines ≡ whole says
+  pub placed : place ≡ after_lines (unread_by race) lines
 
 -- Holds if the bytes taken out are whole lines that say this. It says nothing if the source's bytes weren't
--- known, or after its end was seen.
-abbrev pub ReadSoFar : Bool → Option (List ℕ) → Option (List ℕ) → Progress → Said → Type 0
-ReadSoFar true before ahead place says = Unit {0}
-ReadSoFar false None ahead place says = Unit {0}
-ReadSoFar false (Some bytes) None place says = ⊥
-ReadSoFar false (Some bytes) (Some rest) place says = LinesRead bytes rest place says
+-- known, or after its end was seen. The first flag says whether the script is for a race, and the second one whether
+-- the end was seen.
+abbrev pub ReadSoFar : Bool → Bool → Option (List ℕ) → Option (List ℕ) → Progress → Said → Type 0
+ReadSoFar race true before ahead place says = Unit {0}
+ReadSoFar race false None ahead place says = Unit {0}
+ReadSoFar race false (Some bytes) None place says = ⊥
+ReadSoFar race false (Some bytes) (Some rest) place says = LinesRead race bytes rest place says
 
 -- Holds if the lines that were taken out of a source say this. The source held these bytes, if they are known.
--- Unless the lines are silent, no caps line may follow.
-pub record HasRead (before : Option (List ℕ)) (reader : Position) (left : Option (List ℕ)) (says : Said) : Type 0 where
-  pub script : option_map script_of before ≡ option_map (with_said says) (to_come reader left)
-  pub lines : ReadSoFar reader.lines.ended before (ahead reader.lines left) reader.reader says
+-- Unless the lines are silent, no caps line may follow. The script is for a race if the flag is true.
+pub record HasReadBy (race : Bool) (before : Option (List ℕ)) (reader : Position)
+    (left : Option (List ℕ)) (says : Said) : Type 0 where
+  pub script : option_map (script_by race) before ≡ option_map (with_said says) (to_come reader left)
+  pub lines : ReadSoFar race reader.lines.ended before (ahead reader.lines left) reader.reader says
   pub begun : (is_silent says ≡ true) ⊎ (reader.reader.head ≡ Begun)
   pub sees : SawTheEnd reader.lines left
   pub counted : length says.lines ≡ reader.reader.lines
+
+-- Holds if the lines that were taken out say this, in a script that is played.
+abbrev pub HasRead : Option (List ℕ) → Position → Option (List ℕ) → Said → Type 0
+HasRead before reader left says = HasReadBy false before reader left says
 
 -- Returns how many lines this result has.
 abbrev pub came : Result (Option ScriptLine) Stop → ℕ
@@ -127,11 +134,17 @@ came (Ok (Some line)) = 1
 came _ = 0
 
 -- Holds if reading one more line, after lines that say this, gave this result: a line, the script's end, or a
--- stop.
+-- stop. The script is for a race if the flag is true.
+abbrev pub ReadToBy : Bool → Result (Option ScriptLine) Stop → Option (List ℕ) → Position
+    → Option (List ℕ) → Said → Type 0
+ReadToBy race (Ok (Some line)) before reader left says = HasReadBy race before reader left (then says (said_of line))
+ReadToBy race (Ok None) before reader left says =
+    PlaysBy race (Ok tt) before left says × IfSome left (λ bytes. bytes ≡ [])
+ReadToBy race (Err stop) before reader left says = PlaysBy race (Err stop) before left says
+
+-- Holds if reading one more line of a script that is played gave this result.
 abbrev pub ReadTo : Result (Option ScriptLine) Stop → Option (List ℕ) → Position → Option (List ℕ) → Said → Type 0
-ReadTo (Ok (Some line)) before reader left says = HasRead before reader left (then says (said_of line))
-ReadTo (Ok None) before reader left says = Plays (Ok tt) before left says × IfSome left (λ bytes. bytes ≡ [])
-ReadTo (Err stop) before reader left says = Plays (Err stop) before left says
+ReadTo result before reader left says = ReadToBy false result before reader left says
 
 -- The head and the body of a script.
 
@@ -170,3 +183,14 @@ pub record IsHeadRead (read : Result (Option ScriptLine) Stop) (place : Progress
   pub begun : IfOk read (λ line. IfSome line (λ _. place.head ≡ Begun))
   pub few : IfOk read (λ line. IfSome line (λ _. place.lines ≤ most_lines))
   pub readable : IfErr read IsReadStop
+
+-- The whole of a script for a race.
+
+-- Holds if the whole of a script for a race was read, or a part of it up to what stopped the reading. It says which
+-- lines were read, and what the fleet was asked for.
+pub record ReadsScript (stopped : Result Unit Stop) (lines : List Line) (before left : Option (List ℕ))
+    (preferred_before preferred_after : Preferred) (ability_before ability_after : Caps) : Type 0 where
+  pub asked : Option Caps
+  pub plays : PlaysBy true stopped before left (saying asked lines)
+  pub prefers : Prefers asked preferred_before preferred_after ability_before ability_after
+  pub ended : stopped ≡ Ok tt → IfSome left (λ bytes. bytes ≡ [])

@@ -9,7 +9,7 @@ use Rattle.dsql_script_forms.specs.declared.fault.LineFault.{LineFault}
 use Rattle.dsql_script_reader.specs.declared.script.ScriptLine.{ScriptLine}
 use Rattle.dsql_script_reader.specs.declared.script.ScriptLine.TheVariants.{Skip, Version, UseCaps, Client, Step, StepHouse}
 use Rattle.dsql_script_reader.specs.declared.script.ScriptLine.TheVariants as script
-use Rattle.dsql_script_reader.specs.ScriptHead.{Progress, unread, after}
+use Rattle.dsql_script_reader.specs.ScriptHead.{Progress, unread_by, after}
 use Rattle.dsql_script_reader.specs.ScriptLines.{Reading, read_of}
 use Rattle.dsql_driver_stream.specs.Lines.{all_lines}
 
@@ -87,12 +87,21 @@ script_from before [] = whole nothing
 script_from before (line ∷ more) =
     with_line (before.lines + 1) (read_of before line) (λ says. script_from (after before says) more)
 
-abbrev pub script_of : List ℕ → Script
-script_of bytes = script_from unread (all_lines bytes)
+-- Returns what these bytes say as a script, which is for a race if the flag is true.
+abbrev pub script_by : Bool → List ℕ → Script
+script_by race bytes = script_from (unread_by race) (all_lines bytes)
 
--- Holds if the bytes, if they are known, say this.
+-- Returns what these bytes say as a script that is played.
+abbrev pub script_of : List ℕ → Script
+script_of bytes = script_by false bytes
+
+-- Holds if the bytes, if they are known, say this. The script is for a race if the flag is true.
+abbrev pub SaysBy : Bool → Option (List ℕ) → Script → Type 0
+SaysBy race bytes script = IfSome bytes (λ b. script_by race b ≡ script)
+
+-- Holds if the bytes, if they are known, say this as a script that is played.
 abbrev pub Says : Option (List ℕ) → Script → Type 0
-Says bytes script = IfSome bytes (λ b. script_of b ≡ script)
+Says bytes script = SaysBy false bytes script
 
 -- Holds if what lines say begins with this. Unless this is silent, the lines after it ask the driver for
 -- nothing.
@@ -101,6 +110,10 @@ pub record BeginsSaying (front all : Said) : Type 0 where
   pub parts : all ≡ then front rest
   pub asked : (is_silent front ≡ true) ⊎ (rest.caps ≡ None)
 
--- Holds if the bytes, if they are known, say this first.
+-- Holds if the bytes, if they are known, say this first. The script is for a race if the flag is true.
+abbrev pub SaysFirstBy : Bool → Option (List ℕ) → Said → Type 0
+SaysFirstBy race bytes says = IfSome bytes (λ b. BeginsSaying says (script_by race b).says)
+
+-- Holds if the bytes, if they are known, say this first as a script that is played.
 abbrev pub SaysFirst : Option (List ℕ) → Said → Type 0
-SaysFirst bytes says = IfSome bytes (λ b. BeginsSaying says (script_of b).says)
+SaysFirst bytes says = SaysFirstBy false bytes says

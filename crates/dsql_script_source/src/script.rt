@@ -1,12 +1,13 @@
-ghost use Rattle.std.specs.Prelude.{◌≡◌, ◌+◌, ◌≤◌, ℕ, List, Option, true, false, [], None, IfOk, IfErr, IfSome, is_some, length};
+ghost use Rattle.std.specs.Prelude.{◌≡◌, ◌+◌, ◌≤◌, ℕ, Bool, List, Option, true, false, [], None, IfOk, IfErr, IfSome, is_some, length};
 ghost use Rattle.dsql_driver_stream.specs.Faults.{CountsFaults};
 ghost use Rattle.dsql_driver_stream.specs.Lines.{ahead, SawTheEnd};
-ghost use Rattle.dsql_script_reader.specs.ScriptHead.{unread, after, labels_after};
+ghost use Rattle.dsql_script_reader.specs.ScriptHead.{unread_by, after, labels_after};
 ghost use Rattle.dsql_script_reader.specs.ScriptLines.{most_lines, read_of};
 ghost use Rattle.dsql_script_reader.specs.declared.script.Head.{Head};
 ghost use Rattle.dsql_script_source.specs.Naming.{LearnsLabel};
 ghost use Rattle.dsql_script_source.specs.Position.{position};
-ghost use Rattle.dsql_script_source.specs.Reading.{HasRead, ReadTo, IsBodyLine, ends_head, NoLine, to_come, ReadsOn, TakesLine, DropsUnfinished, StopsReading, IsRefusal, came};
+ghost use Rattle.dsql_script_source.specs.Racing.{IsRacedLine};
+ghost use Rattle.dsql_script_source.specs.Reading.{HasReadBy, ReadToBy, IsBodyLine, ends_head, NoLine, to_come, ReadsOn, TakesLine, DropsUnfinished, StopsReading, IsRefusal, came};
 ghost use Rattle.dsql_script_source.specs.Script.{Said, nothing};
 ghost use Rattle.dsql_script_source.specs.Stops.{is_read_fault, IsReadStop};
 ghost use Rattle.dsql_script_source.specs.declared.stop.Stop.TheVariants.{Read};
@@ -39,21 +40,22 @@ impl Model for ScriptReader {
 }
 
 impl ScriptReader {
-    /// Returns a reader that has read nothing.
-    pub fn new(alloc: Global) -> Result<ScriptReader, Memory>
+    /// Returns a reader that has read nothing, of a script for a race if `race` is true.
+    pub fn new(alloc: Global, race: bool) -> Result<ScriptReader, Memory>
         ensures lines { IfOk result (λ r. r.lines ≡ record { pending = []; ended = false }) }
-        ensures reader { IfOk result (λ r. r.reader ≡ unread) }
-        ensures first { (left : Option (List ℕ)) → IfOk result (λ r. HasRead left r left nothing) }
+        ensures reader { IfOk result (λ r. r.reader ≡ unread_by race) }
+        ensures first { (left : Option (List ℕ)) → IfOk result (λ r. HasReadBy race left r left nothing) }
     {
         Ok(ScriptReader {
             lines: LineReader::new(alloc)?,
-            reader: Reader::new(alloc),
+            reader: Reader::new(alloc, race),
             line: Vec::new(alloc),
         })
     }
 
     /// Reads the next line, if there is one. After the first line that is neither skipped nor the version line,
-    /// it returns no version line and no caps line.
+    /// it returns no version line and no caps line. In a script for a race it returns no line that sets the moment,
+    /// holds a call or asks for one step.
     ///
     /// # Errors
     ///
@@ -63,13 +65,17 @@ impl ScriptReader {
         alloc: Global,
         input: &mut S,
     ) -> Result<Option<ScriptLine>, Stop>
-        ensures reads { (before : Option (List ℕ)) (says : Said) → HasRead before self.old (S.left input.old) says
-            → ReadTo result before self.new (S.left input.new) says }
+        ensures reads { (race : Bool) (before : Option (List ℕ)) (says : Said)
+            → HasReadBy race before self.old (S.left input.old) says
+            → ReadToBy race result before self.new (S.left input.new) says }
         ensures body { self.old.reader.head ≡ Head.Begun → IfOk result IsBodyLine }
         ensures begun { self.old.reader.head ≡ Head.Begun → self.new.reader.head ≡ Head.Begun }
+        ensures raced { self.old.reader.race ≡ true → IfOk result IsRacedLine }
+        ensures race { self.new.reader.race ≡ self.old.reader.race }
         ensures headed { IfOk result (λ line. IfSome line (λ says. ends_head says ≡ true → self.new.reader.head
             ≡ Head.Begun)) }
-        ensures counted { (before : Option (List ℕ)) (says : Said) → HasRead before self.old (S.left input.old) says
+        ensures counted { (race : Bool) (before : Option (List ℕ)) (says : Said)
+            → HasReadBy race before self.old (S.left input.old) says
             → length says.lines + came result ≡ self.new.reader.lines }
         ensures numbered { IfOk result (λ line. IfSome line (λ _. self.new.reader.lines ≡ self.old.reader.lines + 1)) }
         ensures few { IfOk result (λ line. IfSome line (λ _. self.new.reader.lines ≤ most_lines)) }

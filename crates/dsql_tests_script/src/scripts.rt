@@ -306,7 +306,7 @@ fn transcripts_are_those_of_a_reader(rt: HostRuntime) -> Result<(), Fail> {
         OTHER_ARRAYS,
         OTHER_LINES,
     ] {
-        let mut reader = Reader::new(rt.alloc());
+        let mut reader = Reader::new(rt.alloc(), false);
         for part in transcript.split("\n= ") {
             let (want, lines) = part.split_once('\n').unwrap_or((part, ""));
             assert_told(&rt, &mut reader, lines, want)?;

@@ -2,12 +2,13 @@ use Rattle.dsql_script_source.specs.Position.{position}
 use Rattle.dsql_script_source.specs.Reading.{to_come}
 use Rattle.dsql_script_source.proofs.Coming.{reads_to, counts_to}
 use Rattle.dsql_script_source.proofs.Body.{body_of_read, begun_of_read, headed_of_read, counted_of_read, readable_stops}
+use Rattle.dsql_script_source.proofs.Racing.{raced_of_read, same_race}
 use Rattle.dsql_script_source.proofs.script.ScriptReader.next.Goals as goal
 
 pub returns-clause-reads : goal.returns-clause-reads
 returns-clause-reads g c =
     rw (← c.self.view_is)
-    (λ before says h. reads_to c.take_line.result before (position c.self.inside.lines c.self.inside.reader) (position c.take_line.new.lines c.take_line.new.reader) (g.S.Source.left c.args.input.now) (g.S.Source.left c.take_line.new.input) c.take_line.new.line.items says h
+    (λ race before says h. reads_to race c.take_line.result before (position c.self.inside.lines c.self.inside.reader) (position c.take_line.new.lines c.take_line.new.reader) (g.S.Source.left c.args.input.now) (g.S.Source.left c.take_line.new.input) c.take_line.new.line.items says h
     (record {
       read = c.take_line.ensures.read;
       taken = c.take_line.ensures.taken;
@@ -23,7 +24,7 @@ returns-clause-reads g c =
 pub returns-clause-counted : goal.returns-clause-counted
 returns-clause-counted g c =
     rw (← c.self.view_is)
-    (λ before says h. counts_to c.take_line.result before (position c.self.inside.lines c.self.inside.reader) (position c.take_line.new.lines c.take_line.new.reader) (g.S.Source.left c.args.input.now) says h c.take_line.ensures.placed
+    (λ race before says h. counts_to race c.take_line.result before (position c.self.inside.lines c.self.inside.reader) (position c.take_line.new.lines c.take_line.new.reader) (g.S.Source.left c.args.input.now) says h c.take_line.ensures.placed
     c.take_line.ensures.stays)
 
 pub returns-clause-body : goal.returns-clause-body
@@ -31,6 +32,12 @@ returns-clause-body g c = rw (← c.self.view_is) (λ begun. body_of_read c.take
 
 pub returns-clause-begun : goal.returns-clause-begun
 returns-clause-begun g c = rw (← c.self.view_is) (λ begun. begun_of_read c.take_line.result c.self.inside.reader c.take_line.new.reader c.take_line.new.line.items begun c.take_line.ensures.is c.take_line.ensures.placed c.take_line.ensures.stays)
+
+pub returns-clause-raced : goal.returns-clause-raced
+returns-clause-raced g c = rw (← c.self.view_is) (λ race. raced_of_read c.take_line.result c.self.inside.reader c.take_line.new.line.items race c.take_line.ensures.is)
+
+pub returns-clause-race : goal.returns-clause-race
+returns-clause-race g c = rw (← c.self.view_is) (same_race c.take_line.result c.self.inside.reader c.take_line.new.reader c.take_line.ensures.placed c.take_line.ensures.stays)
 
 pub returns-clause-headed : goal.returns-clause-headed
 returns-clause-headed g c = headed_of_read c.take_line.result c.self.inside.reader c.take_line.new.reader c.take_line.ensures.placed
