@@ -1,28 +1,24 @@
 -- A hall that takes in the answer to a client's driver call. The argument is that the bond ties the answer to the leave
 -- that the client has at present, and to the connection's journal at present.
-use Rattle.std.proofs.Common.{◌≡◌, ◌≢◌, ◌<◌, ◌⊎◌, inl, inr, ◌+◌, ◌==◌, ℕ, Bool, true, false, List, [], ◌∷◌, ◌++◌, length, set, Option, Some, None, refl, ap, sym, subst, ◌∙◌, arith, get_or-set_same}
+use Rattle.std.proofs.Common.{◌≡◌, ◌≢◌, ◌<◌, inl, inr, ◌+◌, ℕ, true, false, List, [], ◌∷◌, set, Option, Some, None, refl, ap, sym, subst, ◌∙◌, arith, get_or-set_same}
 use Rattle.std.specs.Prelude.{MatchBool}
 use Rattle.dsql_engine_laws.specs.driver.Kinds.{is_connect, is_shut}
 use Rattle.dsql_engine_laws.specs.driver.Wires.{WireTold}
 use Rattle.dsql_engine_laws.specs.journal.declared.entry.Entry.{Entry}
 use Rattle.dsql_engine_laws.specs.journal.declared.entry.Permit.{Permit}
 use Rattle.dsql_engine_laws.specs.journal.HandlesAndCursors.{fits_at_its_place}
-use Rattle.dsql_engine_laws.specs.tenure.Judged.{answered}
-use Rattle.dsql_engine_laws.specs.history.declared.event.Control.{Control}
 use Rattle.dsql_engine_laws.specs.history.declared.event.Event.{Event}
 use Rattle.dsql_engine_laws.specs.history.declared.event.Event.TheVariants.{Heard}
 use Rattle.dsql_engine_laws.specs.history.Legal.{Lawful, Legal}
-use Rattle.dsql_engine_laws.specs.history.Readers.Clients.{call_of, client_of}
+use Rattle.dsql_engine_laws.specs.history.Readers.Clients.{call_of}
 use Rattle.dsql_engine_laws.specs.history.Readers.Journals.{journal}
 use Rattle.dsql_engine_laws.specs.laws_steps.Groups.{after_heard}
 use Rattle.dsql_engine_laws.specs.wire.Journaled.{Journaled}
 use Rattle.dsql_engine_laws.proofs.laws.Tests.{other_number}
 use Rattle.dsql_engine_laws.proofs.Leave.{leave_opens_none, leave_sends, leave_shuts_none}
 use Rattle.dsql_wire.proofs.Answered.{makes}
-use Rattle.dsql_player_wires.specs.Made.{Made, aside_on}
 use Rattle.dsql_player_wires.specs.Seats.{seat}
-use Rattle.dsql_player_wires.specs.Told.{fleet_told}
-use Rattle.dsql_player_wires.specs.WiresFit.{FitsAt, HoldsWire, PlansAt, is_wired, slot}
+use Rattle.dsql_player_wires.specs.WiresFit.{FitsAt, HoldsWire, is_wired, slot}
 use Rattle.dsql_player_wires.proofs.Journals.{journal_here, same_or_not, still_wired, unheard}
 use Rattle.dsql_player_wires.proofs.Permits.{sent_wired}
 use Rattle.dsql_player_wires.proofs.Slots.{slot_elsewhere}
@@ -43,7 +39,7 @@ use Rattle.dsql_hall_steps.specs.Limits.{set_in}
 use Rattle.dsql_hall_steps.specs.Racing.{resting}
 use Rattle.dsql_hall_steps.proofs.Carrying.{back_home, slot_set}
 use Rattle.dsql_hall_steps.proofs.Entering.{step_rests}
-use Rattle.dsql_hall_steps.proofs.Frames.{Spares, clients_step, house_stays, out_stays, slot_stays, spares_step}
+use Rattle.dsql_hall_steps.proofs.Frames.{Spares, clients_step, out_stays, slot_stays, spares_step}
 use Rattle.dsql_hall_steps.proofs.Moving.{not_full, step_keeps}
 use Rattle.dsql_hall_steps.proofs.Out.{found_without}
 

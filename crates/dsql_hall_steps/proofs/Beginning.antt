@@ -1,6 +1,6 @@
 -- A race begins with a player that keeps all lines. The argument is that limits that are set before enter no line, and
 -- that a player that keeps one more line has read one more.
-use Rattle.std.proofs.Common.{◌≡◌, ℕ, ◌≤◌, Bool, true, false, not, ◌&&◌, ◌||◌, List, [], ◌∷◌, ◌++◌, length, drop, reverse, refl, ap, sym, subst, ◌∙◌, arith}
+use Rattle.std.proofs.Common.{◌≡◌, ℕ, true, false, not, ◌&&◌, ◌||◌, List, [], ◌∷◌, ◌++◌, drop, reverse, refl, ap, sym, ◌∙◌, arith}
 use Rattle.std.proofs.lemmas.List.{reverse-append}
 use Rattle.dsql_engine_laws.specs.history.declared.event.Event.{Event}
 use Rattle.dsql_engine_laws.specs.history.declared.event.Control.{Control}
@@ -21,7 +21,7 @@ use Rattle.dsql_player_wires.specs.Seats.{seat}
 use Rattle.dsql_player.specs.Playing.{IsAt, Playing, lines_kept}
 use Rattle.dsql_player.specs.Stepping.{IsTold, TakesStep}
 use Rattle.dsql_player.proofs.Taking.{nobody_sends}
-use Rattle.dsql_hall_steps.specs.Racing.{Races, raced, resting}
+use Rattle.dsql_hall_steps.specs.Racing.{Races, resting}
 use Rattle.dsql_hall_steps.proofs.Ordered.{step_ordered}
 use Rattle.dsql_hall_steps.proofs.Entering.{races_on, rests_too}
 

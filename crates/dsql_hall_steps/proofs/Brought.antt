@@ -1,6 +1,6 @@
 -- The house brings back the answer to a Connect or a Shut. The argument is that a connection that was shut has no wire,
 -- and one that was opened has the wire that came.
-use Rattle.std.proofs.Common.{◌≡◌, ◌≢◌, ◌<◌, ◌≤◌, ◌+◌, ◌-◌, ℕ, Bool, true, false, List, [], ◌∷◌, length, set, Option, Some, None, is_some, refl, ap, sym, subst, ◌∙◌, arith}
+use Rattle.std.proofs.Common.{◌≡◌, ◌≢◌, ◌≤◌, ◌+◌, ◌-◌, ℕ, Bool, true, false, List, [], ◌∷◌, length, Option, Some, None, is_some, refl, ap, sym, subst, ◌∙◌, arith}
 use Rattle.std.specs.Prelude.{MatchBool}
 use Rattle.dsql_engine_laws.specs.driver.Fits.{is_done}
 use Rattle.dsql_engine_laws.specs.driver.Kinds.{is_connect, is_shut}
@@ -22,8 +22,8 @@ use Rattle.dsql_player.proofs.Answering.{entry_conn}
 use Rattle.dsql_hall_bonds.specs.Work.{Work, find, without}
 use Rattle.dsql_hall_steps.specs.Errands.{Brought, IsBack}
 use Rattle.dsql_hall_steps.specs.Halls.{InHall, IsAtHome, IsHall, Keeps, MayComeBack, Terms, house}
-use Rattle.dsql_hall_steps.specs.House.{IsOwn, IsShutting, own_work}
-use Rattle.dsql_hall_steps.specs.Openings.{Found, IsFound, IsOpening}
+use Rattle.dsql_hall_steps.specs.House.{IsShutting, own_work}
+use Rattle.dsql_hall_steps.specs.Openings.{Found, IsFound}
 use Rattle.dsql_hall_steps.proofs.Carrying.{ChangesSlot, back_home, stopped_hall}
 use Rattle.dsql_hall_steps.proofs.ChoreAnswered.{IsAnswered, TookChore, away, its_journal, took_on}
 use Rattle.dsql_hall_steps.proofs.Returned.{it_counts}

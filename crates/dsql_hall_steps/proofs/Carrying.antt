@@ -1,6 +1,6 @@
 -- A hall as work goes out and comes back. The argument is that only one slot changes, and only what is found under one
 -- number.
-use Rattle.std.proofs.Common.{◌≡◌, ◌≢◌, ◌<◌, ◌≤◌, ◌⊎◌, inl, inr, ◌+◌, ◌^◌, ◌&&◌, ℕ, Bool, true, false, List, [], ◌∷◌, ◌++◌, length, set, Option, Some, None, refl, ap, sym, subst, ◌∙◌, arith, length-set}
+use Rattle.std.proofs.Common.{◌≡◌, ◌≢◌, ◌<◌, ◌≤◌, inl, inr, ◌+◌, ℕ, Bool, List, ◌∷◌, ◌++◌, length, set, Option, Some, None, refl, ap, sym, subst, ◌∙◌, arith, length-set}
 use Rattle.dsql_engine_laws.specs.driver.Wires.{WireTold}
 use Rattle.dsql_engine_laws.specs.history.declared.event.Control.{Control}
 use Rattle.dsql_engine_laws.specs.history.declared.event.Event.{Event}
@@ -16,8 +16,8 @@ use Rattle.dsql_player.specs.declared.halt.Halt.{Halt}
 use Rattle.dsql_player.specs.declared.halt.Halt.TheVariants as halts
 use Rattle.dsql_player.specs.Playing.{Playing}
 use Rattle.dsql_hall_bonds.specs.Work.{Work, find, without}
-use Rattle.dsql_hall_bonds.proofs.Finding.{find_here, find_other, find_without_other}
-use Rattle.dsql_hall_steps.specs.Halls.{GoesOn, HasHome, HouseIsOut, InHall, IsHall, IsOut, Keeps, MayComeBack, SlotFits, Terms, are_apart, house}
+use Rattle.dsql_hall_bonds.proofs.Finding.{find_here, find_other}
+use Rattle.dsql_hall_steps.specs.Halls.{HasHome, HouseIsOut, InHall, IsHall, IsOut, Keeps, MayComeBack, SlotFits, Terms, house}
 use Rattle.dsql_hall_steps.specs.Limits.{set_in}
 use Rattle.dsql_hall_steps.specs.Racing.{Races}
 use Rattle.dsql_hall_steps.proofs.Out.{apart_with, apart_without, few_out, found_with, found_without, one_struck}
@@ -29,6 +29,10 @@ pub record ChangesSlot {W : Type 0} (c : ℕ) (before after : List (Option W)) :
 
 pub slot_set : {W : Type 0} (slots : List (Option W)) (c : ℕ) (wire : Option W) → ChangesSlot c slots (set slots c wire)
 slot_set slots c wire = record { others = λ d apart. slot_elsewhere slots c wire d apart; many = let same = length-set slots c wire in omega (arith, same) }
+
+-- The slot whose wire is taken is empty.
+pub slot_emptied : {W : Type 0} (slots now : List (Option W)) (c : ℕ) → now ≡ set slots c None → ChangesSlot c slots now × (slot now c ≡ None)
+slot_emptied slots now c emptied = subst (λ s. ChangesSlot c slots s × (slot s c ≡ None)) (sym emptied) (slot_set slots c None, set_default slots c None)
 
 home_still : {W : Type 0} (c d : ℕ) (before after : List (Option (Journaled W))) → ChangesSlot c before after → d ≢ c → HasHome before d → HasHome after d
 home_still c d before after changes apart home = record {

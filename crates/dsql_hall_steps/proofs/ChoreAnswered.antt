@@ -1,9 +1,8 @@
 -- A hall that takes in the answer to one of the layer's own driver calls. The bond ties the answer to the driver call
 -- that is due at present, and no other one of the layer is out.
-use Rattle.std.proofs.Common.{◌≡◌, ◌≢◌, ◌<◌, ◌≤◌, ◌⊎◌, inl, inr, ◌+◌, ℕ, Bool, true, false, List, [], ◌∷◌, ◌++◌, length, Option, Some, None, refl, ap, sym, subst, ◌∙◌, arith}
+use Rattle.std.proofs.Common.{◌≡◌, ◌≢◌, ◌<◌, ◌≤◌, inl, inr, ◌+◌, ℕ, true, List, ◌∷◌, Option, Some, None, Result, Ok, Err, OnOk, refl, ap, sym, subst, ◌∙◌, arith}
 use Rattle.dsql_engine_laws.specs.driver.Wires.{WireTold}
 use Rattle.dsql_engine_laws.specs.journal.declared.entry.Entry.{Entry}
-use Rattle.dsql_engine_laws.specs.journal.declared.entry.Permit.{Permit}
 use Rattle.dsql_engine_laws.specs.journal.HandlesAndCursors.{fits_at_its_place}
 use Rattle.dsql_engine_laws.specs.tenure.Judged.{answered}
 use Rattle.dsql_engine_laws.specs.history.declared.event.Event.{Event}
@@ -30,7 +29,7 @@ use Rattle.dsql_player.proofs.Grouped.{Grouped, hears_grouped}
 use Rattle.dsql_player.proofs.Hearing.{all_quiet, answer_grown}
 use Rattle.dsql_hall_bonds.specs.Work.{Work, find, without}
 use Rattle.dsql_hall_bonds.proofs.Finding.{find_here, find_other, find_without, find_without_other}
-use Rattle.dsql_hall_steps.specs.Halls.{GoesOn, HasHome, InHall, IsAtHome, IsAway, IsHall, IsOfLayer, IsOut, MayComeBack, SlotFits, Terms, house}
+use Rattle.dsql_hall_steps.specs.Halls.{GoesOn, InHall, IsAtHome, IsAway, IsHall, IsOfLayer, IsOut, MayComeBack, SlotFits, Terms, house}
 use Rattle.dsql_hall_steps.specs.House.{IsOwn, own_work}
 use Rattle.dsql_hall_steps.specs.Limits.{set_in}
 use Rattle.dsql_hall_steps.specs.Racing.{resting}
@@ -68,14 +67,24 @@ pub record FleetGoesOn (made : List Made) (before after : List Event) (e : Entry
 chore_sets : (conn : Option ℕ) (first : Event) (n : ℕ) (past : List Event) → IsChoreOn conn first n → set_in (first ∷ past) ≡ set_in past
 chore_sets conn first n past is = ap (λ e. set_in (e ∷ past)) is.heard
 
+-- If the answer is taken in, only the history changes.
+pub only_past : {A E : Type 0} (r : Result A E) (p q : Playing) (past : List Event) → IsReady p → OnOk r (IsReady q) → OnOk r (q.past ≡ past) → OnOk r (q.flights ≡ p.flights) → OnOk r (q.seats ≡ p.seats)
+    → OnOk r (q.released ≡ p.released) → q.trimmed ≡ p.trimmed → OnOk r (q ≡ record p { past = past })
+only_past (Ok it) p q past ready now grown flights seats released trimmed =
+    ap (λ x. record q { past = x }) grown
+    ∙ (ap (λ x. record q { past = past; trimmed = x }) trimmed
+    ∙ (ap (λ x. record q { past = past; trimmed = p.trimmed; flights = x }) flights
+    ∙ (ap (λ x. record q { past = past; trimmed = p.trimmed; flights = p.flights; chore = x }) (now.free ∙ sym ready.free)
+    ∙ (ap (λ x. record p { past = past; seats = x; released = q.released }) seats
+    ∙ ap (λ x. record p { past = past; released = x }) released))))
+only_past (Err it) p q past ready now grown flights seats released trimmed = tt
+
 -- What taking in the answer says of the player.
 pub record TookChore (e : Entry) (p q : Playing) : Type 0 where
-  pub past : q.past ≡ after_heard p.past e
+  pub player : q ≡ record p { past = after_heard p.past e }
   pub step : (m : Moment) → IsAt m p → TakesStep m p q (IsChoreOn (Some e.conn))
-  pub seats : q.seats ≡ p.seats
   pub ready : IsReady q
   pub course : SameCourse p q
-  pub trimmed : q.trimmed ≡ p.trimmed
 
 -- The work of the layer that is out, which was answered.
 pub record IsAnswered (out : List Work) (work : Work) (e : Entry) : Type 0 where
@@ -121,11 +130,14 @@ module _ {W : Type 0} (heard : W → Option WireTold) (race : Terms) (h : InHall
     lawful : Lawful q.past
     lawful = took.ready.legal.lawful
 
+    grown : q.past ≡ after_heard p.past e
+    grown = ap (λ (x : Playing). x.past) took.player
+
     on_it : e.conn ≡ c
     on_it = entry_conn work.permit e it.entry ∙ sym it.conn
 
     pub group : Grouped p.past q.past (Heard e) e.call_no
-    group = subst (λ H. Grouped p.past H (Heard e) e.call_no) (sym took.past) (hears_grouped p.past e (subst Lawful took.past lawful))
+    group = subst (λ H. Grouped p.past H (Heard e) e.call_no) (sym grown) (hears_grouped p.past e (subst Lawful grown lawful))
 
     step : TakesStep (resting race.lines p) p q (IsChoreOn (Some e.conn))
     step = took.step (resting race.lines p) on.at
@@ -215,7 +227,7 @@ module _ {W : Type 0} (heard : W → Option WireTold) (race : Terms) (h : InHall
             let out : IsOut p h.chore d its = on.work d its found in
             record {
               client = λ some.
-                  client_stays p q d its on.ready (clients_step p.past q.past (Heard e) e.call_no group) (λ k has. ap (λ seats. (seat seats k).permit) took.seats ∙ has) (out.client some);
+                  client_stays p q d its on.ready (clients_step p.past q.past (Heard e) e.call_no group) (λ k has. ap (λ (x : Playing). (seat x.seats k).permit) took.player ∙ has) (out.client some);
               layer = λ none elsewhere.
                   let two : Some c ≡ Some d = sym of_layer.chore ∙ (out.layer none elsewhere).chore in
                   let same : d ≡ c = cc in
@@ -238,7 +250,7 @@ module _ {W : Type 0} (heard : W → Option WireTold) (race : Terms) (h : InHall
         pub took_on : (left : ℕ) → h.away ≡ left + 1 → IsHall heard race (record h { player = q; slots = now; out = out_now; away = left; chore = None })
         took_on left less = record {
           keeps =
-              step_keeps race p q (IsChoreOn (Some e.conn)) step h.settings (λ past. chore_sets (Some e.conn) step.first step.call past step.kind_is) took.ready.legal took.trimmed is.keeps;
+              step_keeps race p q (IsChoreOn (Some e.conn)) step h.settings (λ past. chore_sets (Some e.conn) step.first step.call past step.kind_is) took.ready.legal (ap (λ (x : Playing). x.trimmed) took.player) is.keeps;
           back = renewed_back now (without c h.out) left own new refl own_out (back_home c work h.slots now h.out h.away left changes it.was_out less is.back);
           full = not_full h q.past runs;
           well = λ none. record {

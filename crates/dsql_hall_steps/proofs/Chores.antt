@@ -1,6 +1,6 @@
 -- The house takes one of the layer's own driver calls out of the hall. While the run goes on, such a call is of a
 -- connection that isn't lent, so no client's work is out there.
-use Rattle.std.proofs.Common.{◌≡◌, ◌≢◌, ◌<◌, ◌≤◌, ◌⊎◌, inl, inr, ◌+◌, ℕ, Bool, true, false, List, [], ◌∷◌, length, set, Option, Some, None, is_some, refl, ap, sym, subst, ◌∙◌, arith, length-set}
+use Rattle.std.proofs.Common.{◌≡◌, ◌≢◌, ◌<◌, ◌≤◌, inl, inr, ◌+◌, ℕ, true, false, List, [], ◌∷◌, length, set, Option, Some, None, is_some, refl, ap, sym, subst, ◌∙◌, arith, length-set}
 use Rattle.std.specs.Prelude.{option_map}
 use Rattle.dsql_engine_laws.specs.driver.Kinds.{is_connect, is_shut}
 use Rattle.dsql_engine_laws.specs.driver.Wires.{WireTold}
@@ -61,8 +61,25 @@ connects_or_shuts past c permit l running due no_connect no_shut =
     let clash : true ≡ false = sym (told.tidy no_connect no_shut) ∙ unlent_chore past c permit l running due in
     cc
 
-module _ {W : Type 0} (heard : W → Option WireTold) (race : Terms) (h : InHall W) (permit : Permit) (is : IsHall heard race h) (runs : h.stopped ≡ None) (free : h.chore ≡ None)
-    (due : chore_permit h.player.past permit.conn ≡ Some permit) (number : permit.conn < house) where
+-- Holds if the run goes on and the layer may make this driver call, while none of its own is out.
+pub record MayGoOut {W : Type 0} (heard : W → Option WireTold) (race : Terms) (h : InHall W) (permit : Permit) : Type 0 where
+  pub is : IsHall heard race h
+  pub runs : h.stopped ≡ None
+  pub free : h.chore ≡ None
+  pub due : chore_permit h.player.past permit.conn ≡ Some permit
+  pub number : permit.conn < house
+
+pub may_go_out : {W : Type 0} (heard : W → Option WireTold) (race : Terms) (h before : InHall W) (permit : Permit) → IsHall heard race h → h ≡ before → before.stopped ≡ None → before.chore ≡ None
+    → chore_permit before.player.past permit.conn ≡ Some permit → permit.conn < house → MayGoOut heard race h permit
+may_go_out heard race h before permit is was runs free due number = record {
+  is = is;
+  runs = ap (λ b. b.stopped) was ∙ runs;
+  free = ap (λ b. b.chore) was ∙ free;
+  due = ap (λ b. chore_permit b.player.past permit.conn) was ∙ due;
+  number = number;
+}
+
+module _ {W : Type 0} (heard : W → Option WireTold) (race : Terms) (h : InHall W) (permit : Permit) (may : MayGoOut heard race h permit) where
   abbrev p : Playing
   p = h.player
 
@@ -74,26 +91,26 @@ module _ {W : Type 0} (heard : W → Option WireTold) (race : Terms) (h : InHall
   work_of = record { conn = c; permit = permit; past = p.past }
 
   on : GoesOn heard race h
-  on = is.well runs
+  on = may.is.well may.runs
 
   l : Lawful p.past
   l = on.ready.legal.lawful
 
   other : c ≢ house
-  other same = let clash : house < house = subst (λ n. n < house) same number in absurd (omega (arith, clash))
+  other same = let clash : house < house = subst (λ n. n < house) same may.number in absurd (omega (arith, clash))
 
   pub may_be_made : MayBeMade p.past c permit
-  may_be_made = chore_made p.past c permit l on.ready.legal.settled.nothing_owed due
+  may_be_made = chore_made p.past c permit l on.ready.legal.settled.nothing_owed may.due
 
   unlent : is_lent (place p.past c) ≡ false
-  unlent = unlent_chore p.past c permit l on.running due
+  unlent = unlent_chore p.past c permit l on.running may.due
 
   -- No work is out on the connection.
   pub none_out : find c h.out ≡ None
   none_out = by (find c h.out) refl
     where
       of_layer : (work : Work) → IsOfLayer p h.chore c work → ⊥
-      of_layer work it = let clash : None ≡ Some c = sym free ∙ it.chore in cc
+      of_layer work it = let clash : None ≡ Some c = sym may.free ∙ it.chore in cc
 
       of_client : (work : Work) → IsOfClient p c work → ⊥
       of_client work it =
@@ -117,22 +134,22 @@ module _ {W : Type 0} (heard : W → Option WireTold) (race : Terms) (h : InHall
   is_out : IsOut p (Some c) c work_of
   is_out = record {
     client = λ some. absurd (some may_be_made.layer);
-    layer = λ none apart. record { conn = refl; chore = refl; due = due; unlent = unlent };
+    layer = λ none apart. record { conn = refl; chore = refl; due = may.due; unlent = unlent };
   }
 
   still : (d : ℕ) (it : Work) → find d h.out ≡ Some it → IsOut p h.chore d it → IsOut p (Some c) d it
   still d it found out = record {
     client = out.client;
-    layer = λ none apart. let its = out.layer none apart in let clash : None ≡ Some d = sym free ∙ its.chore in absurd cc;
+    layer = λ none apart. let its = out.layer none apart in let clash : None ≡ Some d = sym may.free ∙ its.chore in absurd cc;
   }
 
   -- The hall after the driver call went out, with the connection's slot empty.
   pub chore_on : (now : List (Option (Journaled W))) → ChangesSlot c h.slots now → slot now c ≡ None → c < length now
       → IsHall heard race (record h { slots = now; out = work_of ∷ h.out; away = h.away + 1; chore = Some c })
   chore_on now changes empty room = record {
-    keeps = is.keeps;
-    back = sent_back c work_of h.slots now h.out changes refl none_out empty h.away (omega (arith, number)) room is.back;
-    full = is.full;
+    keeps = may.is.keeps;
+    back = sent_back c work_of h.slots now h.out changes refl none_out empty h.away (let number = may.number in omega (arith, number)) room may.is.back;
+    full = may.is.full;
     well = λ none. record {
       ready = on.ready;
       running = on.running;
@@ -149,13 +166,13 @@ module _ {W : Type 0} (heard : W → Option WireTold) (race : Terms) (h : InHall
     unheard : journal p.past c ≡ []
     unheard = (may_be_made.first connects).1
 
-    no_wire : slot h.slots c ≡ None
+    pub no_wire : slot h.slots c ≡ None
     no_wire = subst (λ j. FitsAt heard race.telling c j (slot h.slots c)) unheard home.fits
 
     opening : IsOpening race.made work_of
     opening = record {
       conn = refl;
-      number = number;
+      number = may.number;
       layer = may_be_made.layer;
       connects = connects;
       opens = (may_be_made.first connects).0;
@@ -189,14 +206,14 @@ module _ {W : Type 0} (heard : W → Option WireTold) (race : Terms) (h : InHall
         by (Some wire) its = refl
 
     pub shutting_is : (bond : Work) → bond ≡ work_of → IsShutting bond
-    shutting_is bond tied = subst IsShutting (sym tied) (record { number = number; layer = may_be_made.layer; shuts = shuts })
+    shutting_is bond tied = subst IsShutting (sym tied) (record { number = may.number; layer = may_be_made.layer; shuts = shuts })
 
     module _ (wire : Journaled W) (at : slot h.slots c ≡ Some wire) where
       errand : IsErrand heard race.telling race.made (record { work = work_of; client = 0; wire = wire })
       errand =
           let its = wire_at_home heard race.telling race.made work_of c wire refl (subst (λ w. IsAtHome heard race.telling race.made p.past c w) at home) in
           record {
-            work = record { conn = refl; number = number; client = λ some. absurd (some may_be_made.layer) };
+            work = record { conn = refl; number = may.number; client = λ some. absurd (some may_be_made.layer) };
             wire = its.0;
             journal = its.1;
             sends =

@@ -1,6 +1,6 @@
 -- As the end of the script is carried out after a race, every line has entered in its order and each call has its reply.
 -- The argument is that what is left depends on the events and the lines alone.
-use Rattle.std.proofs.Common.{◌≡◌, true, ◌&&◌, List, [], ◌∷◌, ◌++◌, drop, reverse, refl, ap, sym, ◌∙◌, Bool}
+use Rattle.std.proofs.Common.{◌≡◌, ◌&&◌, List, ◌++◌, drop, reverse, refl, ap, sym, ◌∙◌, Bool}
 use Rattle.std.specs.List.{list_all}
 use Rattle.dsql_engine_laws.specs.journal.Readers.{is_empty}
 use Rattle.dsql_engine_laws.specs.history.declared.event.Event.{Event}
@@ -8,7 +8,7 @@ use Rattle.dsql_engine_laws.specs.history.Readers.Clients.{is_free, made_by}
 use Rattle.dsql_engine_laws.specs.follows.declared.line.Line.{Line}
 use Rattle.dsql_engine_laws.specs.follows.Moments.{Moment, after_events, lines_of, walk}
 use Rattle.dsql_engine_laws.specs.follows.Turns.{clients}
-use Rattle.dsql_engine_laws.specs.follows.Follows.{is_done, leaves_nothing}
+use Rattle.dsql_engine_laws.specs.follows.Follows.{is_done}
 use Rattle.dsql_player.specs.Carried.{CarriesEnd, StopsInEnd}
 use Rattle.dsql_player.specs.Playing.{Playing}
 use Rattle.dsql_hall_steps.specs.Racing.{Races, RacesAll, raced, resting}

@@ -1,8 +1,7 @@
 -- A hall as it is opened, and as it is closed. The argument is that one piece of work is out then, which is the house's.
-use Rattle.std.proofs.Common.{◌≡◌, ◌≢◌, ◌⊎◌, inl, inr, ◌==◌, ◌+◌, ◌≤◌, ℕ, Bool, true, false, cond, List, [], ◌∷◌, length, Option, Some, None, refl, ap, sym, subst, ◌∙◌, arith, eqb-true}
+use Rattle.std.proofs.Common.{◌≡◌, ◌≢◌, inl, inr, ◌==◌, ℕ, Bool, true, false, cond, List, [], ◌∷◌, length, Option, Some, None, refl, ap, sym, subst, ◌∙◌, arith, eqb-true}
 use Rattle.dsql_engine_laws.specs.driver.Wires.{WireTold}
 use Rattle.dsql_engine_laws.specs.history.declared.event.Control.{Control}
-use Rattle.dsql_engine_laws.specs.history.declared.event.Event.{Event}
 use Rattle.dsql_engine_laws.specs.history.Readers.Course.{has_ended}
 use Rattle.dsql_engine_laws.specs.history.Readers.Journals.{journal}
 use Rattle.dsql_engine_laws.specs.wire.Journaled.{Journaled}
@@ -10,18 +9,16 @@ use Rattle.dsql_player_wires.specs.Made.{aside_on}
 use Rattle.dsql_player_wires.specs.Told.{fleet_told}
 use Rattle.dsql_player_wires.specs.WiresFit.{FitsAt, PlansFit, RecordsAside, WiresFit, slot}
 use Rattle.dsql_player_wires.proofs.Journals.{same_or_not}
+use Rattle.dsql_player.specs.declared.halt.Halt.{Halt}
+use Rattle.dsql_player.specs.declared.halt.Halt.TheVariants.{Memory}
 use Rattle.dsql_player.specs.Playing.{IsAt, IsReady, Playing}
 use Rattle.dsql_hall_bonds.specs.Work.{Work, find}
 use Rattle.dsql_hall_bonds.proofs.Finding.{find_here, find_other}
 use Rattle.dsql_hall_steps.specs.Halls.{GoesOn, InHall, IsAtHome, IsAway, IsHall, IsOut, Keeps, SlotFits, Terms, house}
-use Rattle.dsql_hall_steps.specs.House.{IsClosed, IsOwn, own_work}
+use Rattle.dsql_hall_steps.specs.House.{IsClosed, IsOwn, first_hall, own_work, stopped_by}
 use Rattle.dsql_hall_steps.specs.Racing.{resting}
 
 -- The hall is opened.
-
-abbrev first_hall : {W : Type 0} → Playing → List (Option (Journaled W)) → List Control → InHall W
-first_hall p slots settings =
-    record { player = p; slots = slots; out = own_work p.past ∷ []; away = 1; settings = settings; stopped = None; chore = None; resting = false }
 
 module _ {W : Type 0} (heard : W → Option WireTold) (race : Terms) (p : Playing) (slots : List (Option (Journaled W))) (settings : List Control) (ready : IsReady p) (running : has_ended p.past ≡ false)
     (at : IsAt (resting race.lines p) p) (keeps : Keeps race p settings) (wires : WiresFit heard race.telling p.past slots) (plans : PlansFit heard race.made p.past slots) (silent : journal p.past house ≡ []) where
@@ -81,6 +78,15 @@ module _ {W : Type 0} (heard : W → Option WireTold) (race : Terms) (p : Playin
   owned bond tied = subst (IsOwn race.made) (sym tied) (record { conn = refl; silent = silent; unplanned = (plans house).unheard silent })
 
 -- The hall is closed.
+
+-- If nothing stopped the run, only one piece of work is out.
+pub none_stopped : (o : Option Halt) (away : ℕ) → stopped_by o away ≡ None → (o ≡ None) × (away ≡ 1)
+none_stopped None away is = (refl, by (away == 1) refl is)
+  where
+    by : (one : Bool) → (away == 1) ≡ one → cond one None (Some Memory) ≡ None → away ≡ 1
+    by true same none = eqb-true away 1 same
+    by false same none = absurd cc
+none_stopped (Some halt) away is = absurd cc
 
 only : {A : Type 0} (xs : List A) → 1 ≡ length xs → (x : A) × (xs ≡ x ∷ [])
 only [] one = absurd (omega (arith, one))

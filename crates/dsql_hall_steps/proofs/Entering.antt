@@ -1,6 +1,6 @@
 -- After each of its steps a player in a race stands at the resting moment, and its entries stay in the order of the
 -- lines. The argument is that there is no call 0, whose step the resting moment is.
-use Rattle.std.proofs.Common.{◌≡◌, ℕ, ◌≤◌, Bool, true, false, not, ◌&&◌, ◌||◌, List, [], ◌∷◌, ◌++◌, length, drop, reverse, refl, ap, sym, subst, ◌∙◌, append_assoc, arith}
+use Rattle.std.proofs.Common.{◌≡◌, ℕ, Bool, true, false, not, ◌&&◌, ◌||◌, List, [], ◌∷◌, ◌++◌, length, drop, reverse, refl, ap, sym, subst, ◌∙◌, append_assoc, arith}
 use Rattle.dsql_engine_laws.specs.history.declared.event.Event.{Event}
 use Rattle.dsql_engine_laws.specs.history.Readers.Clients.{made_by}
 use Rattle.dsql_engine_laws.specs.history.Rules.Flights.{is_blocked, is_in_flight}

@@ -1,12 +1,10 @@
 -- What a step leaves as it is on a connection on which it hears nothing. The argument goes from the history to the wire
 -- that is at home there, and to the work that is out.
-use Rattle.std.proofs.Common.{◌≡◌, ◌≢◌, ◌<◌, ℕ, ◌==◌, Bool, true, false, List, [], ◌∷◌, ◌++◌, Option, Some, None, refl, ap, sym, subst, ◌∙◌, append_assoc}
+use Rattle.std.proofs.Common.{◌≡◌, ◌<◌, ℕ, Bool, true, false, List, [], ◌∷◌, ◌++◌, Option, Some, None, refl, ap, sym, subst, ◌∙◌, append_assoc}
 use Rattle.std.specs.List.{list_all}
 use Rattle.dsql_engine_laws.specs.driver.Wires.{WireTold}
-use Rattle.dsql_engine_laws.specs.journal.declared.entry.Entry.{Entry}
 use Rattle.dsql_engine_laws.specs.journal.declared.entry.Permit.{Permit}
 use Rattle.dsql_engine_laws.specs.pool.Places.{is_lent}
-use Rattle.dsql_engine_laws.specs.history.declared.event.Control.{Control}
 use Rattle.dsql_engine_laws.specs.history.declared.event.Event.{Event}
 use Rattle.dsql_engine_laws.specs.history.declared.event.Event.TheVariants.{Entered, Heard, SetLimit}
 use Rattle.dsql_engine_laws.specs.history.declared.event.Op.{Op}
@@ -32,7 +30,7 @@ use Rattle.dsql_player.specs.Playing.{IsReady, Playing}
 use Rattle.dsql_player.proofs.Answering.{HasLeave, leave_at}
 use Rattle.dsql_player.proofs.Grouped.{Grouped}
 use Rattle.dsql_hall_bonds.specs.Work.{Work}
-use Rattle.dsql_hall_steps.specs.Halls.{HouseIsOut, IsAtHome, IsAway, IsOfClient, IsOfLayer, IsOut, SlotFits, house}
+use Rattle.dsql_hall_steps.specs.Halls.{HouseIsOut, IsOfClient, IsOfLayer, IsOut, SlotFits}
 use Rattle.dsql_hall_steps.specs.Limits.{set_in}
 
 -- Holds if a history that goes on from another leaves connection c as it was. Its journal is the same. The layer's Connect

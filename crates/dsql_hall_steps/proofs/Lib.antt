@@ -16,4 +16,5 @@ pub mod Recorded
 pub mod Ends
 pub mod Housed
 pub mod Returned
+pub mod Heard
 pub mod Stepped

@@ -1,6 +1,6 @@
 -- A hall over a step of its player in which nothing is heard. The argument is that no client with leave loses it, since
 -- the client that steps has none.
-use Rattle.std.proofs.Common.{◌≡◌, ◌≢◌, ◌≤◌, ◌⊎◌, inl, inr, ℕ, Bool, true, false, List, ◌∷◌, ◌++◌, length, Option, Some, None, is_some, refl, ap, sym, subst, ◌∙◌}
+use Rattle.std.proofs.Common.{◌≡◌, ◌≤◌, inl, inr, ℕ, Bool, true, false, List, ◌∷◌, ◌++◌, length, Option, Some, None, is_some, refl, ap, sym, subst, ◌∙◌}
 use Rattle.dsql_engine_laws.specs.driver.Wires.{WireTold}
 use Rattle.dsql_engine_laws.specs.journal.declared.entry.Permit.{Permit}
 use Rattle.dsql_engine_laws.specs.history.declared.event.Control.{Control}
@@ -21,14 +21,14 @@ use Rattle.dsql_player.specs.Acts.{SamePermitsBut}
 use Rattle.dsql_player.specs.Carried.{HearsNothing}
 use Rattle.dsql_player.specs.declared.halt.Halt.TheVariants as halts
 use Rattle.dsql_player.specs.Keeping.{SameCourse}
-use Rattle.dsql_player.specs.Playing.{FitsCall, IsAt, IsReady, Playing}
+use Rattle.dsql_player.specs.Playing.{IsAt, IsReady, Playing}
 use Rattle.dsql_player.specs.Stepping.{IsEntryOf, IsOfItself, TakesStep, Wakes}
 use Rattle.dsql_player.proofs.Answering.{leave_at}
 use Rattle.dsql_player.proofs.Grouped.{Grouped}
-use Rattle.dsql_hall_bonds.specs.Work.{Work, find}
+use Rattle.dsql_hall_bonds.specs.Work.{find}
 use Rattle.dsql_hall_steps.specs.Halls.{GoesOn, InHall, IsHall, Keeps, Terms}
 use Rattle.dsql_hall_steps.specs.Limits.{set_in}
-use Rattle.dsql_hall_steps.specs.Racing.{Races, resting}
+use Rattle.dsql_hall_steps.specs.Racing.{resting}
 use Rattle.dsql_hall_steps.proofs.Entering.{step_races, step_rests, wakes_races, wakes_rests}
 use Rattle.dsql_hall_steps.proofs.Out.{none_of}
 use Rattle.dsql_hall_steps.proofs.Frames.{IsQuiet, KeepsClients, Spares, clients_same, clients_step, entry_is_quiet, house_stays, itself_is_quiet, out_stays, slot_stays, spares_same, spares_step, step_sets}

@@ -2,13 +2,12 @@
 -- under way, changes nothing. The argument goes over the events one by one.
 use Rattle.std.proofs.Common.{◌≡◌, ℕ, Bool, true, ◌&&◌, List, [], ◌∷◌, ◌++◌, drop, false, refl, ap, sym, subst, ◌∙◌, append_assoc}
 use Rattle.std.specs.List.{list_all}
-use Rattle.std.proofs.lemmas.List.Folds.{list_all-append}
 use Rattle.dsql_engine_laws.specs.history.declared.event.Event.{Event}
 use Rattle.dsql_engine_laws.specs.history.declared.event.Event.TheVariants.{Entered}
 use Rattle.dsql_engine_laws.specs.history.Readers.Clients.{is_free, made_by}
 use Rattle.dsql_engine_laws.proofs.laws.Tests.{both, together}
 use Rattle.dsql_engine_laws.specs.follows.Moments.{Moment, begins_step, lines_of, rested, walk}
-use Rattle.dsql_engine_laws.specs.follows.Sentences.{enters_in_order, is_next, may_enter, passed}
+use Rattle.dsql_engine_laws.specs.follows.Sentences.{enters_in_order, is_next, may_enter}
 use Rattle.dsql_engine_laws.specs.laws_steps.Groups.{IsGroup, is_later_of}
 
 -- Two moments with the same history and the same lines let the same calls enter.

@@ -1,6 +1,6 @@
 -- What the fleet records as the house opens and shuts connections. The argument adds what was asked of it to its record of
 -- the history before.
-use Rattle.std.proofs.Common.{◌≡◌, ◌≢◌, ◌+◌, ◌-◌, ℕ, Bool, true, false, cond, List, [], ◌∷◌, Option, Some, None, is_some, refl, ap, sym, subst, ◌∙◌, append_assoc}
+use Rattle.std.proofs.Common.{◌≡◌, ℕ, Bool, true, false, cond, List, [], ◌∷◌, Option, Some, None, is_some, refl, ap, sym, subst, ◌∙◌, append_assoc}
 use Rattle.std.specs.Prelude.{IfSome, option_map}
 use Rattle.dsql_engine_laws.specs.driver.Fits.{is_memory}
 use Rattle.dsql_engine_laws.specs.driver.Kinds.{is_connect, is_shut}
@@ -14,7 +14,7 @@ use Rattle.dsql_engine_laws.specs.wire.Journaled.{Journaled}
 use Rattle.dsql_engine_laws.specs.wire.Told.{TellsOf}
 use Rattle.dsql_wire.proofs.Answered.{makes}
 use Rattle.dsql_player_wires.specs.Made.{Made, aside_on}
-use Rattle.dsql_player_wires.specs.Told.{fleet_told, tells_of, told_then, with_heard, with_told}
+use Rattle.dsql_player_wires.specs.Told.{fleet_told, tells_of, told_then, with_told}
 use Rattle.dsql_player_wires.specs.WiresFit.{RecordsAside}
 use Rattle.dsql_player_wires.proofs.Journals.{shut_only}
 use Rattle.dsql_player_wires.proofs.Reading.{told_whole}

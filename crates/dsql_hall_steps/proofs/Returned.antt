@@ -1,6 +1,6 @@
 -- A hall as a client comes back. The argument is that its bond's work is out, so there is a slot for its wire, whatever
 -- becomes of its answer.
-use Rattle.std.proofs.Common.{◌≡◌, ◌≢◌, ◌<◌, ◌≤◌, ◌+◌, ◌-◌, ◌^◌, ℕ, Bool, true, false, List, length, set, Option, Some, None, is_some, refl, ap, sym, subst, ◌∙◌, arith}
+use Rattle.std.proofs.Common.{◌≡◌, ◌≢◌, ◌<◌, ◌≤◌, ◌+◌, ◌-◌, ℕ, Bool, true, false, List, length, set, Option, Some, None, is_some, refl, ap, sym, subst, ◌∙◌, arith}
 use Rattle.dsql_engine_laws.specs.driver.Wires.{WireTold}
 use Rattle.dsql_engine_laws.specs.journal.declared.entry.Entry.{Entry}
 use Rattle.dsql_engine_laws.specs.laws_steps.Groups.{most_events}
@@ -9,14 +9,13 @@ use Rattle.dsql_player_wires.specs.Made.{Made}
 use Rattle.dsql_player_wires.specs.WiresFit.{slot}
 use Rattle.dsql_player.specs.declared.halt.Halt.{Halt}
 use Rattle.dsql_player.specs.declared.halt.Halt.TheVariants as halts
-use Rattle.dsql_player.specs.Apart.{AnswersLeave}
 use Rattle.dsql_player.specs.Playing.{Playing}
 use Rattle.dsql_player.proofs.Answering.{entry_conn}
 use Rattle.dsql_hall_bonds.specs.Work.{Work, find, without}
 use Rattle.dsql_hall_steps.specs.Errands.{Brought, IsBack, IsUnheard, IsWorkOf, Sent}
 use Rattle.dsql_hall_steps.specs.Halls.{HasHome, InHall, IsHall, Keeps, MayComeBack, Terms, house}
-use Rattle.dsql_hall_steps.proofs.Answered.{TookIn, answers_leave, heard_on}
-use Rattle.dsql_hall_steps.proofs.Carrying.{back_home, keeps_still, slot_set, some_away, stopped_hall}
+use Rattle.dsql_hall_steps.proofs.Answered.{TookIn, heard_on}
+use Rattle.dsql_hall_steps.proofs.Carrying.{back_home, slot_set, some_away, stopped_hall}
 
 module _ {W : Type 0} (heard : W → Option WireTold) (race : Terms) (h : InHall W) (work : Work) (conn : ℕ) (is : IsHall heard race h) (its : work.conn ≡ conn) (was_out : find work.conn h.out ≡ Some work) where
   is_out : find conn h.out ≡ Some work

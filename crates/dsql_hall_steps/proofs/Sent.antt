@@ -1,6 +1,6 @@
 -- An errand goes out of the hall, its driver call is made, and it comes back. The argument is that leave lets the wire
 -- send the driver call, and that the wire then has heard its answer and nothing besides.
-use Rattle.std.proofs.Common.{◌≡◌, ◌≢◌, ◌<◌, ◌⊎◌, inl, inr, ◌+◌, ℕ, zero, suc, Bool, true, false, List, [], ◌∷◌, length, set, Option, Some, None, refl, ap, sym, subst, ◌∙◌, arith, length-set}
+use Rattle.std.proofs.Common.{◌≡◌, ◌<◌, ◌⊎◌, inl, inr, ◌+◌, ℕ, zero, suc, Bool, true, List, [], ◌∷◌, length, set, Option, Some, None, refl, ap, sym, subst, ◌∙◌, arith, length-set}
 use Rattle.std.specs.Prelude.{is_some}
 use Rattle.dsql_engine_laws.specs.driver.Wires.{WireTold, with_call}
 use Rattle.dsql_engine_laws.specs.driver.declared.call.DriverCall.{DriverCall}
@@ -22,10 +22,9 @@ use Rattle.dsql_player_wires.proofs.Wiring.{some_wired, still_some}
 use Rattle.dsql_player.specs.Playing.{Playing}
 use Rattle.dsql_player.proofs.Answering.{HasLeave, leave_at}
 use Rattle.dsql_hall_bonds.specs.Work.{Work, find}
-use Rattle.dsql_hall_steps.specs.Errands.{Brought, IsBack, IsErrand, IsUnheard, IsWireFor, Sent}
+use Rattle.dsql_hall_steps.specs.Errands.{IsBack, IsErrand, IsUnheard, IsWireFor, Sent}
 use Rattle.dsql_hall_steps.specs.Halls.{GoesOn, InHall, IsAtHome, IsHall, IsOut, SlotFits, Terms, house}
 use Rattle.dsql_hall_steps.proofs.Carrying.{none_is_out, sent_back, sent_fits, sent_house, sent_work, slot_set}
-use Rattle.dsql_hall_steps.proofs.Moving.{not_full}
 
 -- A slot that has a wire is one of the list.
 pub slot_room : {W : Type 0} (slots : List (Option W)) (c : ℕ) (wire : W) → slot slots c ≡ Some wire → c < length slots

@@ -1,5 +1,5 @@
 -- What the house knows of its steps, and of a hall that it closes.
-use Rattle.std.specs.Prelude.{◌≡◌, ◌<◌, Bool, true, false, List, [], ◌∷◌, Option, IfSome, is_some}
+use Rattle.std.specs.Prelude.{ℕ, ◌≡◌, ◌<◌, ◌==◌, Bool, true, false, cond, List, [], ◌∷◌, Option, Some, None, IfSome, is_some}
 use Rattle.dsql_engine_laws.specs.driver.Kinds.{is_shut}
 use Rattle.dsql_engine_laws.specs.driver.Wires.{FleetTold, WireTold, connected_after, retired_after}
 use Rattle.dsql_engine_laws.specs.journal.declared.entry.Entry.{Entry}
@@ -12,10 +12,12 @@ use Rattle.dsql_engine_laws.specs.wire.Told.{TellsOf}
 use Rattle.dsql_player_wires.specs.Made.{Made, aside_on, no_aside}
 use Rattle.dsql_player_wires.specs.Told.{fleet_told, with_told}
 use Rattle.dsql_player_wires.specs.WiresFit.{PlansFit, WiresFit}
+use Rattle.dsql_player.specs.declared.halt.Halt.{Halt}
+use Rattle.dsql_player.specs.declared.halt.Halt.TheVariants.{Memory}
 use Rattle.dsql_player.specs.Playing.{IsAt, IsReady, Playing}
 use Rattle.dsql_hall_bonds.specs.Work.{Work}
 use Rattle.dsql_hall_bonds.specs.Unpicked.{no_permit}
-use Rattle.dsql_hall_steps.specs.Halls.{Terms, house}
+use Rattle.dsql_hall_steps.specs.Halls.{InHall, Terms, house}
 use Rattle.dsql_hall_steps.specs.Racing.{resting}
 
 -- Holds of the work of the house's own bond. No connection has its number, so nothing was heard there, and no fault was
@@ -28,6 +30,33 @@ pub record IsOwn (made : List Made) (work : Work) : Type 0 where
 -- Returns the work of the house's own bond at this history. It is no driver call, so its permit is that of none.
 abbrev pub own_work : List Event → Work
 own_work past = record { conn = house; permit = no_permit; past = past }
+
+-- Returns the hall of a race whose threads haven't started. The house's own work is out.
+abbrev pub first_hall : {W : Type 0} → Playing → List (Option (Journaled W)) → List Control → InHall W
+first_hall p slots settings = record {
+  player = p;
+  slots = slots;
+  out = own_work p.past ∷ [];
+  away = 1;
+  settings = settings;
+  stopped = None;
+  chore = None;
+  resting = false;
+}
+
+-- Returns what stopped a run, of which so much work is out at its end. The house's own is one. More than that stops a
+-- run that nothing stopped, for want of memory.
+abbrev pub stopped_by : Option Halt → ℕ → Option Halt
+stopped_by (Some halt) away = Some halt
+stopped_by None away = cond (away == 1) None (Some Memory)
+
+-- Holds of the parts that are left of a hall.
+pub record HasParts {W : Type 0} (h : InHall W) (p : Playing) (slots : List (Option (Journaled W)))
+    (settings : List Control) (stopped : Option Halt) : Type 0 where
+  pub player : p ≡ h.player
+  pub wires : slots ≡ h.slots
+  pub limits : settings ≡ h.settings
+  pub stop : stopped ≡ stopped_by h.stopped h.away
 
 -- Holds of the work of a connection that the layer shuts.
 pub record IsShutting (work : Work) : Type 0 where

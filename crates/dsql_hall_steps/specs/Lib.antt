@@ -4,5 +4,6 @@ pub mod Errands
 pub mod Halls
 pub mod Openings
 pub mod House
+pub mod Hearing
 pub mod Steps
 pub mod HouseSteps

@@ -1,5 +1,5 @@
 -- What the house carries out of the hall to open a connection, and what comes of it.
-use Rattle.std.specs.Prelude.{ℕ, ◌≡◌, ◌<◌, ◌^◌, Bool, true, List, [], Option}
+use Rattle.std.specs.Prelude.{◌≡◌, ◌<◌, Bool, true, List, [], Option}
 use Rattle.dsql_engine_laws.specs.driver.Kinds.{is_connect}
 use Rattle.dsql_engine_laws.specs.driver.Wires.{WireTold}
 use Rattle.dsql_engine_laws.specs.journal.declared.entry.Entry.{Entry}

@@ -1,24 +1,30 @@
 -- What a client's step says of the hall before and after it.
-use Rattle.std.specs.Prelude.{ℕ, ◌≡◌, ◌≢◌, ◌<◌, ◌⊎◌, ◌∷◌, true, false, length, None, Some, is_some}
+use Rattle.std.specs.Prelude.{ℕ, ◌≡◌, ◌≢◌, ◌<◌, ◌⊎◌, ◌||◌, ◌+◌, ◌∷◌, true, false, length, set, None, Some, is_some}
 use Rattle.dsql_engine_laws.specs.journal.Readers.{is_empty}
 use Rattle.dsql_engine_laws.specs.history.Readers.Calls.{is_busy}
 use Rattle.dsql_player_wires.specs.Seats.{seat}
+use Rattle.dsql_player_wires.specs.WiresFit.{slot}
 use Rattle.dsql_hall_steps.specs.declared.step.Step.{Step}
 use Rattle.dsql_hall_steps.specs.declared.step.Step.TheVariants.{Again, Go, Over, Wait}
 use Rattle.dsql_hall_steps.specs.Errands.{Sent}
 use Rattle.dsql_hall_steps.specs.Halls.{InHall}
 
--- Holds if this errand of the client's call went out of the hall, and the player is as it was.
+-- Holds if this errand of the client's call went out of the hall, with its wire, and nothing else changed.
 pub record GoesOut {W : Type 0} (me : ℕ) (it : Sent W) (before after : InHall W) : Type 0 where
   pub client : it.client ≡ me
   pub of_a_call : it.work.permit.call_no ≢ 0
   pub leave : (seat before.player.seats me).permit ≡ Some it.work.permit
-  pub out : after.out ≡ it.work ∷ before.out
-  pub player : after.player ≡ before.player
+  pub wire : slot before.slots it.work.conn ≡ Some it.wire
+  pub only : after ≡ record before {
+    slots = set before.slots it.work.conn None;
+    out = it.work ∷ before.out;
+    away = before.away + 1;
+  }
 
 -- Holds if the client took a step. The history shows it, or the client has leave for its driver call.
 pub record StepsOnce {W : Type 0} (me : ℕ) (before after : InHall W) : Type 0 where
   pub runs : after.stopped ≡ None
+  pub only : after ≡ record before { player = after.player }
   pub step : (length before.player.past < length after.player.past)
       ⊎ (is_some (seat after.player.seats me).permit ≡ true)
 
@@ -28,14 +34,27 @@ pub record HasToWait {W : Type 0} (me : ℕ) (before after : InHall W) : Type 0 
   pub runs : before.stopped ≡ None
   pub busy : is_busy me before.player.past ≡ true
 
--- Holds if the client has no call and no kept line.
-pub record HasDone {W : Type 0} (me : ℕ) (before : InHall W) : Type 0 where
+-- Holds if nothing changed, since the run had stopped before or only the end is left.
+pub record IsStill {W : Type 0} (before after : InHall W) : Type 0 where
+  pub same : after ≡ before
+  pub why : is_some before.stopped || before.resting ≡ true
+
+-- Holds if the run stopped now, and its history is as it was.
+pub record Stops {W : Type 0} (before after : InHall W) : Type 0 where
+  pub runs : before.stopped ≡ None
+  pub stopped : is_some after.stopped ≡ true
+  pub past : after.player.past ≡ before.player.past
+  pub only : after ≡ record before { player = after.player; stopped = after.stopped }
+
+-- Holds if nothing changed, and the client has no call and no kept line.
+pub record HasDone {W : Type 0} (me : ℕ) (before after : InHall W) : Type 0 where
+  pub same : after ≡ before
   pub free : is_busy me before.player.past ≡ false
   pub entered : is_empty (seat before.player.seats me).kept ≡ true
 
 -- Holds if nothing is left for the client to do: the run has stopped, only the end is left, or the client has done all.
 abbrev pub IsOver : {W : Type 0} → ℕ → InHall W → InHall W → Type 0
-IsOver me before after = (is_some after.stopped ≡ true) ⊎ ((before.resting ≡ true) ⊎ HasDone me before)
+IsOver me before after = IsStill before after ⊎ (Stops before after ⊎ HasDone me before after)
 
 -- Says what a client's thread does next, after the hall let its client take a step.
 abbrev pub DoesNext : {K W : Type 0} → ℕ → InHall W → InHall W → Step K W → Type 0

@@ -6,7 +6,7 @@ ghost use Rattle.dsql_engine_laws.specs.laws_steps.Groups.{most_events};
 ghost use Rattle.dsql_player_wires.specs.WiresFit.{PlansFit, WiresFit};
 ghost use Rattle.dsql_player.specs.Playing.{IsAt, IsReady};
 ghost use Rattle.dsql_hall_steps.specs.Halls.{Keeps, house};
-ghost use Rattle.dsql_hall_steps.specs.House.{IsClosed, IsOwn, own_work};
+ghost use Rattle.dsql_hall_steps.specs.House.{HasParts, IsClosed, IsOwn, first_hall, own_work, stopped_by};
 ghost use Rattle.dsql_hall_steps.specs.Racing.{resting};
 
 use crate::hall::Hall;
@@ -41,8 +41,7 @@ fn tie_own<K: Race, N: WorkName>(keeper: &mut Keeper<K>, cell: &Cell, player: &P
 /// Returns what stopped the run. If nothing did, work besides the house's own that is still out does, for want of
 /// memory.
 fn stopped_by(stopped: Option<Halt>, away: u64) -> Option<Halt>
-    ensures none { result ≡ None → (stopped ≡ None) × (away ≡ 1) }
-    ensures full { result ≡ Some Halt.Full → stopped ≡ Some Halt.Full }
+    ensures { result ≡ stopped_by stopped away }
 {
     if stopped.is_none() && away != 1 {
         return Some(Halt::Memory);
@@ -76,6 +75,7 @@ impl<K: Race, W: Wire> Hall<K, W> {
         requires silent { journal player.past house ≡ [] }
         ensures own { IsOwn K.made result.1 }
         ensures past { result.1.past ≡ player.past }
+        ensures hall { result.0 ≡ first_hall player wires settings.items }
     {
         let bond = tie_own::<K, Brand>(&mut keeper, cell, &player);
         let hall = Hall {
@@ -96,6 +96,7 @@ impl<K: Race, W: Wire> Hall<K, W> {
     pub fn close(self, cell: &Cell, own: Bond<K>) -> Closed<W>
         requires cell { cell.now ≡ K.cell }
         requires own { IsOwn K.made own }
+        ensures parts { HasParts self result.player result.wires result.settings.items result.stopped }
         ensures keeps { Keeps (record {
           run = K.run;
           lines = K.lines;

@@ -69,10 +69,25 @@ impl<K: Race, W: Wire> Model for Unheard<K, W> {
 }
 
 impl<K: Race, W: Wire> Errand<K, W> {
-    /// Makes the driver call. The driver is asked once, or not at all if there is no memory for the answer. The lock
-    /// must not be held.
+    /// Returns the number of the call that makes the driver call, or 0 if the layer does.
+    pub fn call_no(&self) -> u32
+        ensures { result ≡ self.now.work.permit.call_no }
+    {
+        self.permit.call_no
+    }
+
+    /// Returns the number of the connection.
+    pub fn conn(&self) -> u32
+        ensures { result ≡ self.now.wire.conn }
+    {
+        self.permit.conn
+    }
+
+    /// Makes the driver call. Asks the driver once, or not at all if the judge has no memory for the answer. Fails too
+    /// if the driver answers Memory. The lock must not be held.
     pub fn perform(self) -> Result<Back<K, W>, Unheard<K, W>>
         ensures back { IfOk result (λ back. back.work ≡ self.work) }
+        ensures conn { IfOk result (λ back. back.wire.conn ≡ self.wire.conn) }
         ensures unheard { IfErr result (λ unheard. unheard.work ≡ self.work) }
     {
         let Errand {

@@ -1,5 +1,5 @@
 //! What clients bring back into the hall.
-ghost use Rattle.std.specs.Prelude.{◌≡◌, ◌≢◌, ◌≤◌, Err, length, true, is_some, OnErr, OnOk};
+ghost use Rattle.std.specs.Prelude.{◌≡◌, ◌≢◌, ◌≤◌, Err, None, length, true, is_some, OnErr, OnOk};
 ghost use Rattle.dsql_engine_laws.specs.history.Legal.{Legal};
 ghost use Rattle.dsql_engine_laws.specs.history.Readers.Clients.{call_of};
 ghost use Rattle.dsql_engine_laws.specs.laws_steps.Groups.{after_heard, most_events};
@@ -8,6 +8,7 @@ ghost use Rattle.dsql_player.specs.Apart.{AnswersLeave};
 ghost use Rattle.dsql_player.specs.Keeping.{SameCourse};
 ghost use Rattle.dsql_player.specs.Playing.{IsReady};
 ghost use Rattle.dsql_player.specs.Stepping.{HearsAnswer};
+ghost use Rattle.dsql_hall_steps.specs.Hearing.{DropsAnswer, TakesAnswerIn, brought_home, without_memory};
 
 use crate::errand::{Back, Unheard};
 use crate::hall::Hall;
@@ -40,6 +41,10 @@ impl<K: Race, W: Wire> Hall<K, W> {
     pub fn hear(&mut self, cell: &Cell, back: Back<K, W>)
         requires cell { cell.now ≡ K.cell }
         requires of_a_call { back.work.permit.call_no ≢ 0 }
+        ensures heard { self.new.stopped ≡ None
+            → TakesAnswerIn back.entry (brought_home back.work back.wire self.old) self.new }
+        ensures dropped { self.new.stopped ≢ None
+            → DropsAnswer (brought_home back.work back.wire self.old) self.new }
     {
         let Back {
             heard,
@@ -65,6 +70,7 @@ impl<K: Race, W: Wire> Hall<K, W> {
     pub fn hear_nothing(&mut self, cell: &Cell, unheard: Unheard<K, W>)
         requires cell { cell.now ≡ K.cell }
         ensures stopped { is_some self.new.stopped ≡ true }
+        ensures home { self.new ≡ without_memory (brought_home unheard.work unheard.wire self.old) }
     {
         let Unheard {
             conn,

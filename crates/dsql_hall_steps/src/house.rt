@@ -1,11 +1,12 @@
-//! The steps of the house. It sets the limits that are to come, and takes the layer's own driver calls out of the hall.
+//! The steps of the house. It sets the present moment and the limits that are to come, and takes the layer's own driver
+//! calls out of the hall.
 ghost use Rattle.std.specs.Prelude.{◌≡◌, ◌<◌, List, [], None, Some, true, false, length, is_some, IfSome};
 ghost use Rattle.dsql_engine_laws.specs.driver.Kinds.{is_connect, is_shut};
 ghost use Rattle.dsql_engine_laws.specs.going.Permits.{chore_permit};
 ghost use Rattle.dsql_engine_laws.specs.laws_steps.Groups.{most_events};
 ghost use Rattle.dsql_engine_laws.specs.history.Rules.House.{chore_due};
 ghost use Rattle.dsql_hall_steps.specs.House.{ComesFirst};
-ghost use Rattle.dsql_hall_steps.specs.HouseSteps.{HouseDoes};
+ghost use Rattle.dsql_hall_steps.specs.HouseSteps.{HouseDoes, Ticks};
 
 use crate::chore::Chore;
 use crate::clients::tie;
@@ -77,6 +78,24 @@ impl<K: Race, W: Wire> Hall<K, W> {
                 self.stopped = Some(halt);
                 Chore::Over
             }
+        }
+    }
+
+    /// Sets the present moment. A moment before the present one counts as the present one. If the run has stopped or
+    /// only the end is left, changes nothing. If there is no room for a step, or no memory, the run stops.
+    pub fn tick(&mut self, now: u64)
+        ensures ticks { Ticks now self.old self.new }
+    {
+        if self.stopped.is_some() || self.resting {
+            return;
+        }
+        if let Err(halt) = self.player.check_room() {
+            self.stopped = Some(halt);
+            return;
+        }
+        match self.player.control(Control::Tick(now)) {
+            Ok(()) => {}
+            Err(halt) => self.stopped = Some(halt),
         }
     }
 

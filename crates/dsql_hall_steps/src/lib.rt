@@ -1,5 +1,5 @@
-//! Plays a race under one lock. The clients' lines are all read before. A thread a client takes its client's steps, and
-//! the house, a thread of its own, takes the layer's.
+//! Plays a race under one lock. The clients' lines are all read before. Each client has a thread, which takes the
+//! client's steps. The house, on the calling thread, takes the layer's.
 //!
 //! The hall is what the lock keeps: the player, the wires that are at home, and what is out. A thread takes an errand
 //! out of the hall, lets go of the lock, makes the driver call, and brings back what it heard.

@@ -4,8 +4,7 @@ use std::marker::Brand;
 
 /// Names one race, and the cell of its bonds. A hall of a race has the name in its type.
 pub trait Race: CellName {
-    ghost use Rattle.std.specs.Prelude.{Bool, List, Option};
-    ghost use Rattle.dsql_engine_laws.specs.driver.Wires.{FleetTold};
+    ghost use Rattle.std.specs.Prelude.{Bool, List};
     ghost use Rattle.dsql_engine_laws.specs.history.declared.event.Control.{Control};
     ghost use Rattle.dsql_engine_laws.specs.history.declared.event.Event.{Event};
     ghost use Rattle.dsql_engine_laws.specs.follows.declared.line.Line.{Line};
@@ -21,12 +20,10 @@ pub trait Race: CellName {
     ghost telling: { Bool };
     /// The plans that were made before the race.
     ghost made: { List Made };
-    /// What the fleet recorded as the run began.
-    ghost first: { Option FleetTold };
 }
 
 impl Race for Brand {
-    ghost use Rattle.std.specs.Prelude.{[], None, false};
+    ghost use Rattle.std.specs.Prelude.{[], false};
     ghost use Rattle.dsql_engine_laws.specs.history.declared.event.Event.TheVariants.{Ended};
 
     ghost run = { Ended };
@@ -38,6 +35,4 @@ impl Race for Brand {
     ghost telling = { false };
 
     ghost made = { [] };
-
-    ghost first = { None };
 }

@@ -8,6 +8,8 @@ ghost use Rattle.dsql_player.specs.Playing.{IsAt, IsReady};
 ghost use Rattle.dsql_player.specs.Stepping.{IsChoreOn, TakesStep};
 ghost use Rattle.dsql_hall_bonds.specs.Work.{find, without};
 ghost use Rattle.dsql_hall_steps.specs.Halls.{house};
+ghost use Rattle.dsql_hall_steps.specs.Hearing.{DropsAnswer, FillsSlot, TakesChoreIn};
+ghost use Rattle.dsql_hall_steps.specs.Hearing.{brought_home, struck_off, without_memory};
 ghost use Rattle.dsql_hall_steps.specs.House.{IsOwn, IsShutting, TellsConnect, TellsShut, own_work};
 
 use crate::errand::Back;
@@ -24,15 +26,13 @@ use std::marker::Brand;
 fn take_in(player: &mut Player, heard: Heard) -> Result<(), Halt>
     requires ready { IsReady player.old }
     requires answers { AnswersChore player.old heard }
-    ensures past { OnOk result (player.new.past ≡ after_heard player.old.past heard) }
+    ensures player { OnOk result (player.new ≡ record player.old { past = after_heard player.old.past heard }) }
     ensures step { OnOk result ((m : Moment) → IsAt m player.old
         → TakesStep m player.old player.new (IsChoreOn (Some heard.conn))) }
-    ensures seats { OnOk result (player.new.seats ≡ player.old.seats) }
     ensures ready { OnOk result (IsReady player.new) }
     ensures course { OnOk result (SameCourse player.old player.new) }
     ensures kept { OnErr result (player.new ≡ player.old) }
     ensures full { result ≡ Err Halt.Full → most_events ≤ length player.new.past }
-    ensures trimmed { player.new.trimmed ≡ player.old.trimmed }
 {
     player.check_room()?;
     player.hear_chore(heard)
@@ -73,6 +73,10 @@ impl<K: Race, W: Wire> Hall<K, W> {
         ensures told { self.new.stopped ≡ None
             → TellsShut W.told K.telling K.made own.past result.0.past back.wire }
         ensures stays { self.new.stopped ≢ None → (result.0 ≡ own) × (result.1 ≡ None) }
+        ensures heard { self.new.stopped ≡ None
+            → TakesChoreIn back.entry (struck_off back.work self.old) self.new result.0 }
+        ensures dropped { self.new.stopped ≢ None
+            → DropsAnswer (brought_home back.work back.wire self.old) self.new }
     {
         let Back {
             heard,
@@ -109,6 +113,11 @@ impl<K: Race, W: Wire> Hall<K, W> {
         ensures own { IsOwn K.made result }
         ensures told { self.new.stopped ≡ None → TellsConnect K.made own.past result.past opened.entry }
         ensures stays { self.new.stopped ≢ None → result ≡ own }
+        ensures slot { FillsSlot opened.work.conn opened.wire self.old.slots self.new.slots }
+        ensures heard { self.new.stopped ≡ None → TakesChoreIn opened.entry
+            (record (struck_off opened.work self.old) { slots = self.new.slots }) self.new result }
+        ensures dropped { self.new.stopped ≢ None → DropsAnswer
+            (record (struck_off opened.work self.old) { slots = self.new.slots }) self.new }
     {
         let Opened { heard, wire, bond } = opened;
         let conn = heard.entry().conn;
@@ -134,6 +143,7 @@ impl<K: Race, W: Wire> Hall<K, W> {
     pub fn hear_no_opening(&mut self, cell: &Cell, unopened: Unopened<K>)
         requires cell { cell.now ≡ K.cell }
         ensures stopped { self.new.stopped ≢ None }
+        ensures struck { self.new ≡ without_memory (struck_off unopened self.old) }
     {
         let Unopened { conn: _, bond } = unopened;
         self.keeper.untie(cell, bond);

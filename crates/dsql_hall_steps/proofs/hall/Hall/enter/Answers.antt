@@ -20,4 +20,4 @@ invariant_of-self-in-Ok g c =
     c.in-Ok.ensures.enters
 
 pub returns-in-Ok : goal.returns-in-Ok
-returns-in-Ok g c = record { next = shown _ _ _ _ c.self.view_is (ap (λ h. h.stopped) c.self.view_is ∙ c.requires.runs) c.in-Ok.ensures.grows }
+returns-in-Ok g c = record { next = shown _ _ _ _ c.self.view_is c.requires.runs c.in-Ok.ensures.grows }

@@ -1,5 +1,6 @@
 use Rattle.std.proofs.Common.{Err, ap, refl, sym, ◌∙◌}
 use Rattle.dsql_hall_steps.proofs.Answered.{answers_leave}
+use Rattle.dsql_hall_steps.proofs.Heard.{dropped_home, no_reason, taken_home}
 use Rattle.dsql_hall_steps.proofs.Out.{none_of}
 use Rattle.dsql_hall_steps.proofs.Returned.{back_conn, back_heard, back_stopped, back_stops, has_room, has_space, it_counts, its_number}
 use Rattle.dsql_hall_steps.proofs.hall.Hall.hear.Goals as goal
@@ -53,3 +54,18 @@ pub invariant_of-self-in-Err : goal.invariant_of-self-in-Err
 invariant_of-self-in-Err g c =
     let its = back_conn _ _ _ _ _ c.back.invariant c.entry.ensures in
     back_stops _ _ _ _ _ c.self.invariant its c.untie.ensures.was_out _ _ _ c.put.ensures c.untie.ensures.now _ _ c.in-Err.ensures.kept (λ at. c.in-Err.ensures.full (ap Err at))
+
+pub returns-then-is_some-clause-dropped : goal.returns-then-is_some-clause-dropped
+returns-then-is_some-clause-dropped g c = λ _.
+    let its = back_conn _ _ _ _ _ c.back.invariant c.entry.ensures in
+    dropped_home _ _ _ _ _ _ _ c.self.view_is c.back.view_is its c.put.ensures c.untie.ensures.now _ _ refl (λ _. refl)
+
+pub returns-in-Ok-clause-heard : goal.returns-in-Ok-clause-heard
+returns-in-Ok-clause-heard g c = λ _.
+    let its = back_conn _ _ _ _ _ c.back.invariant c.entry.ensures in
+    taken_home _ _ _ _ _ _ _ c.self.view_is c.back.view_is its c.put.ensures c.untie.ensures.now _ c.in-Ok.ensures.past
+
+pub returns-in-Err-clause-dropped : goal.returns-in-Err-clause-dropped
+returns-in-Err-clause-dropped g c = λ _.
+    let its = back_conn _ _ _ _ _ c.back.invariant c.entry.ensures in
+    dropped_home _ _ _ _ _ _ _ c.self.view_is c.back.view_is its c.put.ensures c.untie.ensures.now _ _ c.in-Err.ensures.kept (no_reason _ _ (sym c.is_some.ensures ∙ c.if-is_some.false))

@@ -1,4 +1,4 @@
-use Rattle.std.proofs.Common.{Err, arith, ap, refl, sym, subst, ◌∙◌}
+use Rattle.std.proofs.Common.{Err, arith, ap, sym, subst, ◌∙◌}
 use Rattle.dsql_hall_bonds.specs.Work.{find}
 use Rattle.dsql_hall_steps.specs.Halls.{house}
 use Rattle.dsql_hall_steps.specs.House.{TellsConnect}
@@ -30,12 +30,10 @@ invariant_of-self-in-Ok g c =
     opening_heard _ _ _ c.self.invariant (none_of _ (sym c.is_some.ensures ∙ c.if-is_some.false)) _ _ _ _ _ _ _ c.opened.invariant c.untie.ensures.was_out (found_conn_of _ _ _ _ _ c.opened.invariant c.entry.ensures)
     c.untie.ensures.now c.renew.ensures.was_out c.renew.ensures.out
     (record {
-      past = c.in-Ok.ensures.past;
+      player = c.in-Ok.ensures.player;
       step = c.in-Ok.ensures.step;
-      seats = c.in-Ok.ensures.seats;
       ready = c.in-Ok.ensures.ready;
       course = c.in-Ok.ensures.course;
-      trimmed = c.in-Ok.ensures.trimmed;
     })
     c.put_any.ensures.here c.put_any.ensures.others c.put_any.ensures.many
 
@@ -48,12 +46,10 @@ pub returns-in-Ok-clause-own : goal.returns-in-Ok-clause-own
 returns-in-Ok-clause-own g c =
     own_renewed _ _ _ _ _ c.self.invariant (none_of _ (sym c.is_some.ensures ∙ c.if-is_some.false)) (opening_answered _ _ _ _ _ c.opened.invariant c.untie.ensures.was_out) _
     (record {
-      past = c.in-Ok.ensures.past;
+      player = c.in-Ok.ensures.player;
       step = c.in-Ok.ensures.step;
-      seats = c.in-Ok.ensures.seats;
       ready = c.in-Ok.ensures.ready;
       course = c.in-Ok.ensures.course;
-      trimmed = c.in-Ok.ensures.trimmed;
     })
     _ (ap (find house) (sym c.untie.ensures.now) ∙ c.renew.ensures.was_out) _ c.renew.ensures.bond c.requires.own
 
@@ -62,12 +58,10 @@ returns-in-Ok-clause-told g c = λ runs.
     let goes =
     fleet_goes_on _ _ _ _ _ c.self.invariant runs (opening_answered _ _ _ _ _ c.opened.invariant c.untie.ensures.was_out) _
     (record {
-      past = c.in-Ok.ensures.past;
+      player = c.in-Ok.ensures.player;
       step = c.in-Ok.ensures.step;
-      seats = c.in-Ok.ensures.seats;
       ready = c.in-Ok.ensures.ready;
       course = c.in-Ok.ensures.course;
-      trimmed = c.in-Ok.ensures.trimmed;
     })
     _ (ap (find house) (sym c.untie.ensures.now) ∙ c.renew.ensures.was_out) _ c.renew.ensures.bond in
     subst (λ o. TellsConnect g.K.Race.made c.args.own.past c.renew.result.past o.entry) c.opened.view_is (opening_tells _ _ _ _ _ _ _ c.opened.invariant goes)

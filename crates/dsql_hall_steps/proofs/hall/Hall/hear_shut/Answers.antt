@@ -4,6 +4,7 @@ use Rattle.dsql_hall_steps.specs.Halls.{house}
 use Rattle.dsql_hall_steps.specs.House.{IsShutting, TellsShut}
 use Rattle.dsql_hall_steps.proofs.Brought.{shut_answered, shut_heard}
 use Rattle.dsql_hall_steps.proofs.ChoreAnswered.{answers_chore, fleet_goes_on, own_renewed}
+use Rattle.dsql_hall_steps.proofs.Heard.{dropped_home}
 use Rattle.dsql_hall_steps.proofs.Out.{none_of}
 use Rattle.dsql_hall_steps.proofs.Returned.{back_conn, back_stopped, back_stops, has_room, has_space}
 use Rattle.dsql_hall_steps.proofs.Recorded.{shut_tells}
@@ -31,12 +32,10 @@ invariant_of-self-in-Ok g c =
     shut_heard _ _ _ c.self.invariant (none_of _ (sym c.is_some.ensures ∙ c.if-is_some.false)) _ _ _ _ _ c.back.invariant (subst (λ b. IsShutting b.work) (sym c.back.view_is) c.requires.shut) c.untie.ensures.was_out
     c.untie.ensures.now c.renew-own.ensures.was_out c.renew-own.ensures.out
     (record {
-      past = c.in-Ok.ensures.past;
+      player = c.in-Ok.ensures.player;
       step = c.in-Ok.ensures.step;
-      seats = c.in-Ok.ensures.seats;
       ready = c.in-Ok.ensures.ready;
       course = c.in-Ok.ensures.course;
-      trimmed = c.in-Ok.ensures.trimmed;
     })
 
 pub put-requires-in-Err-clause-room : goal.put-requires-in-Err-clause-room
@@ -57,12 +56,10 @@ returns-in-Ok-clause-own g c =
     (shut_answered _ _ _ _ _ c.back.invariant (subst (λ b. IsShutting b.work) (sym c.back.view_is) c.requires.shut) c.untie.ensures.was_out)
     _
     (record {
-      past = c.in-Ok.ensures.past;
+      player = c.in-Ok.ensures.player;
       step = c.in-Ok.ensures.step;
-      seats = c.in-Ok.ensures.seats;
       ready = c.in-Ok.ensures.ready;
       course = c.in-Ok.ensures.course;
-      trimmed = c.in-Ok.ensures.trimmed;
     })
     _ (ap (find house) (sym c.untie.ensures.now) ∙ c.renew-own.ensures.was_out) _ c.renew-own.ensures.bond c.requires.own
 
@@ -71,13 +68,15 @@ returns-in-Ok-clause-told g c = λ runs.
     let goes =
     fleet_goes_on _ _ _ _ _ c.self.invariant runs (shut_answered _ _ _ _ _ c.back.invariant (subst (λ b. IsShutting b.work) (sym c.back.view_is) c.requires.shut) c.untie.ensures.was_out) _
     (record {
-      past = c.in-Ok.ensures.past;
+      player = c.in-Ok.ensures.player;
       step = c.in-Ok.ensures.step;
-      seats = c.in-Ok.ensures.seats;
       ready = c.in-Ok.ensures.ready;
       course = c.in-Ok.ensures.course;
-      trimmed = c.in-Ok.ensures.trimmed;
     })
     _ (ap (find house) (sym c.untie.ensures.now) ∙ c.renew-own.ensures.was_out) _ c.renew-own.ensures.bond in
     let shuts = subst (λ b. IsShutting b.work) (sym c.back.view_is) c.requires.shut in
     subst (λ b. TellsShut g.W.Wire.told g.K.Race.telling g.K.Race.made c.args.own.past c.renew-own.result.past b.wire) c.back.view_is (shut_tells _ _ _ _ _ _ c.back.invariant shuts goes)
+
+pub returns-then-is_some-clause-dropped : goal.returns-then-is_some-clause-dropped
+returns-then-is_some-clause-dropped g c = λ _.
+    dropped_home _ _ _ _ _ _ _ c.self.view_is c.back.view_is (back_conn _ _ _ _ _ c.back.invariant c.entry.ensures) c.put.ensures c.untie.ensures.now _ _ refl (λ _. refl)

@@ -1,4 +1,4 @@
-use Rattle.std.proofs.Common.{inr, refl, sym, ◌∙◌}
+use Rattle.std.proofs.Common.{inr, sym, ◌∙◌}
 use Rattle.dsql_hall_steps.proofs.Housed.{rests_then, waits_for_client}
 use Rattle.dsql_hall_steps.proofs.hall.Hall.rest.Goals as goal
 
@@ -7,4 +7,4 @@ returns-then-is_some g c = record { does = waits_for_client _ _ _ c.self.view_is
 
 pub returns : goal.returns
 returns g c =
-    record { does = inr (inr (rests_then _ _ _ _ c.self.view_is c.requires.set c.requires.none c.next_client.ensures (sym c.is_some.ensures ∙ c.if-is_some.false) refl)) }
+    record { does = inr (inr (inr (rests_then _ _ _ c.self.view_is c.requires.set c.requires.none c.next_client.ensures (sym c.is_some.ensures ∙ c.if-is_some.false)))) }

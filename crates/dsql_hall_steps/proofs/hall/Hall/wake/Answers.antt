@@ -27,4 +27,4 @@ invariant_of-self-in-Ok g c =
     c.in-Ok.ensures.wakes
 
 pub returns-in-Ok : goal.returns-in-Ok
-returns-in-Ok g c = record { next = woken _ _ _ _ _ c.self.view_is (ap (λ h. h.stopped) c.self.view_is ∙ c.requires.runs) c.in-Ok.ensures.grows c.in-Ok.ensures.leave }
+returns-in-Ok g c = record { next = woken _ _ _ _ _ c.self.view_is c.requires.runs c.in-Ok.ensures.grows c.in-Ok.ensures.leave }
