@@ -1,0 +1,73 @@
+-- What is true of a race that is over. The argument takes each part from what the threads left, and from what the end
+-- of the run adds to it.
+use Rattle.std.proofs.Common.{◌≡◌, ◌≤◌, ℕ, true, false, List, [], ◌++◌, Option, Some, None, Result, Ok, Err, refl, ap, sym, subst, ◌∙◌, length}
+use Rattle.std.specs.Prelude.{OnOk, unwrap_or}
+use Rattle.dsql_engine_laws.specs.history.declared.event.Control.{Control}
+use Rattle.dsql_engine_laws.specs.history.declared.event.Event.{Event}
+use Rattle.dsql_engine_laws.specs.history.Legal.{Legal}
+use Rattle.dsql_engine_laws.specs.history.Readers.Course.{has_ended}
+use Rattle.dsql_engine_laws.specs.history.Rules.House.{is_quiet}
+use Rattle.dsql_engine_laws.specs.follows.declared.line.Line.{Line}
+use Rattle.dsql_engine_laws.specs.laws_ends.Over.{IsOver}
+use Rattle.dsql_engine_laws.specs.laws_steps.Groups.{most_events}
+use Rattle.dsql_player.specs.declared.halt.Halt.{Halt}
+use Rattle.dsql_player.specs.declared.halt.Halt.TheVariants.{Full, Memory}
+use Rattle.dsql_player.specs.Playing.{Playing}
+use Rattle.dsql_player.proofs.Ended.{on_ok2}
+use Rattle.dsql_hall_steps.specs.Halls.{Keeps, Terms}
+use Rattle.dsql_hall_steps.specs.Limits.{set_in}
+use Rattle.dsql_hall_steps.specs.Racing.{Races, RacesAll}
+use Rattle.dsql_hall.specs.Ends.{EndsRace}
+use Rattle.dsql_hall.specs.Raced.{RacesThrough, SetsSome, ends_last, settings_of}
+use Rattle.dsql_hall.proofs.Setting.{left_limit}
+
+-- What is true anyway is true on success.
+pub ok_so : {A E : Type 0} (r : Result A E) (P : Type 0) → P → OnOk r P
+ok_so (Ok a) P p = p
+ok_so (Err e) P p = tt
+
+-- A race that stopped before its end is a race in part.
+pub halted : (race : Terms) (halt : Halt) (left : List Control) (p : Playing) → Keeps race p left → race.settings ≡ settings_of race.lines → (halt ≡ Full → most_events ≤ length p.past)
+    → EndsRace race.run race.lines (Err halt) p
+halted race halt left p keeps all full = record {
+  through = tt;
+  in_part = record { some = keeps.ordered; settings = record { left = left; whole = keeps.settings ∙ all } };
+  over = tt;
+  ended = tt;
+  quiet = tt;
+  legal = keeps.legal;
+  full = λ is. full cc;
+  whole = keeps.whole;
+}
+
+-- What stopped a race is what stopped its hall, or want of memory.
+pub full_or : (stopped : Option Halt) (events : ℕ) → (stopped ≡ Some Full → most_events ≤ events) → unwrap_or stopped Memory ≡ Full → most_events ≤ events
+full_or None events full is = absurd cc
+full_or (Some halt) events full is = full (ap Some is)
+
+-- A race that couldn't begin for want of memory is a race in part.
+pub unbegun : (run : Event) (lines : List Line) (left : List Control) (p : Playing) → Legal p.past → Races run lines p.past → p.trimmed ≡ 0 → set_in p.past ++ left ≡ settings_of lines → EndsRace run lines (Err Memory) p
+unbegun run lines left p legal races whole all =
+    halted (record { run = run; lines = lines; settings = settings_of lines; telling = false; made = [] }) Memory left p
+    (record { legal = legal; ordered = races; whole = whole; settings = all; limits = left_limit lines (set_in p.past) left all }) refl (λ is. absurd cc)
+
+-- A race whose end was tried is over, or is a race in part.
+pub finished : (race : Terms) (lines : List Line) (left : List Control) (stopped : Result (Unit {0}) Halt) (old new : Playing) → race.lines ≡ lines → Keeps race old left → race.settings ≡ settings_of race.lines
+    → OnOk stopped ((run : Event) → Races run lines old.past → RacesAll run lines new.past) → ((run : Event) → Races run lines old.past → Races run lines new.past) → OnOk stopped (set_in new.past ≡ set_in old.past ++ left)
+    → SetsSome (set_in old.past ++ left) new.past → OnOk stopped (set_in old.past ++ left ≡ settings_of lines → ends_last lines new.past ≡ true) → OnOk stopped (IsOver new.past) → OnOk stopped (has_ended new.past ≡ true) → OnOk stopped (is_quiet new.past ≡ true) → Legal new.past
+    → (stopped ≡ Err Full → most_events ≤ length new.past) → new.trimmed ≡ old.trimmed → EndsRace race.run race.lines stopped new
+finished race lines left stopped old new same keeps all carried some set some_set last over ended quiet legal full trimmed =
+    let ordered : Races race.run lines old.past = subst (λ (l : List Line). Races race.run l old.past) same keeps.ordered in
+    let sets : set_in old.past ++ left ≡ settings_of lines = keeps.settings ∙ (all ∙ ap settings_of same) in
+    subst (λ (l : List Line). EndsRace race.run l stopped new) (sym same) (record {
+      through =
+          on_ok2 stopped (λ (more : (set_in old.past ++ left ≡ settings_of lines → ends_last lines new.past ≡ true) → RacesThrough race.run lines new.past) latest. more latest)
+          (on_ok2 stopped (λ every done latest. record { all = every race.run ordered; settings = done ∙ sets; last = latest sets }) carried set) last;
+      in_part = record { some = some race.run ordered; settings = record { left = some_set.left; whole = some_set.whole ∙ sets } };
+      over = over;
+      ended = ended;
+      quiet = quiet;
+      legal = legal;
+      full = full;
+      whole = trimmed ∙ keeps.whole;
+    })

@@ -1,0 +1,31 @@
+//! Races a script on threads. Its clients' lines are all kept first, and then each client goes on by itself, on a
+//! thread of its own. The house, on the calling thread, opens and shuts connections, and sets limits and moments. One
+//! legal history comes of it, in whatever order the threads take their steps.
+//!
+//! All share one hall under one lock. No driver call is made while a thread holds the lock. That is the order of the
+//! code, and no contract says it. Nor does a contract say that the threads get on. Besides its driver calls, a thread
+//! waits only for the lock and for changes of the hall. Whoever changed the hall so that another may go on lets go of
+//! the lock, and then wakes the others. At the end the house waits for the other threads.
+#![tactic(auto)]
+
+mod client;
+mod ending;
+mod house;
+mod limits;
+mod moments;
+mod raced;
+mod racing;
+mod shared;
+mod threads;
+mod turns;
+mod worked;
+
+pub use dsql_engine_laws::{Control, Fleet, Line};
+pub use dsql_history::{Clock, Failed, Gate, Memory, Past, Sink, Source, Txt};
+pub use dsql_player::{Halt, Player, Room, carry_end, carry_line};
+pub use dsql_player_wires::{KeptLine, Wires, retire_all};
+pub use limits::set_limits;
+pub use moments::needs_time;
+pub use raced::Raced;
+pub use racing::race;
+pub use worked::worked_races;
