@@ -4,3 +4,6 @@ pub mod Written
 pub mod Heading
 pub mod Summaries
 pub mod Trimming
+pub mod Limits
+pub mod Raced
+pub mod TakingUp

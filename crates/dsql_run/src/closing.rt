@@ -78,7 +78,7 @@ pub(crate) fn close<F: Fleet>(
 }
 
 /// Is true if a run can't be carried on.
-fn is_halted(played: &Result<(), Stop>) -> bool
+pub(crate) fn is_halted(played: &Result<(), Stop>) -> bool
     ensures halts { result ≡ true → ran_out played.now ≡ false }
     ensures goes_on { result ≡ false → ran_out played.now ≡ true }
 {

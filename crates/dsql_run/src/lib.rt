@@ -1,5 +1,5 @@
-//! Runs a script, from the script's bytes to the report's bytes. The program around it does what its words ask
-//! for, and reports the result by a note and a status.
+//! Runs a script, from the script's bytes to the report's bytes. Plays the script line by line, or races its clients.
+//! The program around it does what its words ask for, and reports the result by a note and a status.
 //!
 //! A caller plays a script of two lines over a fleet:
 //!
@@ -18,9 +18,13 @@ mod finishing;
 mod generating;
 mod playing;
 mod program;
+mod racing;
+mod racing_lines;
 mod showing;
 mod summing;
+mod taking_up;
 
 pub use dsql_run_outcome::{Stop, tell};
 pub use playing::play;
 pub use program::sqlrun;
+pub use racing::race_script;

@@ -171,7 +171,7 @@ pub(crate) fn play_keeping<S: Source, K: Sink, F: Fleet>(
         (seen S.Source K.Sink F.Fleet input.old output.old fleet.old)
         (seen S.Source K.Sink F.Fleet input.new output.new fleet.new) }
 {
-    let Ok(script) = ScriptReader::new(alloc) else {
+    let Ok(script) = ScriptReader::new(alloc, false) else {
         return Played::not_begun();
     };
     let Ok(room) = Room::new(alloc) else {

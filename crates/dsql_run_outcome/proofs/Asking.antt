@@ -2,10 +2,10 @@
 use Rattle.std.proofs.Common.{◌≡◌, true, false, [], ◌∷◌, ◌++◌, Option, Some, None, refl, ◌∙◌, ap, subst, inl, inr}
 use Rattle.std.specs.Prelude.{Result, Ok, Err}
 use Rattle.std.proofs.lemmas.List.{append-nil}
-use Rattle.dsql_history.specs.driver.declared.caps.Caps.{Caps}
-use Rattle.dsql_history.specs.driver.Wires.{FleetTold}
-use Rattle.dsql_history.specs.declared.event.Event.TheVariants.{Run}
-use Rattle.dsql_player_wires.specs.Told.{with_told}
+use Rattle.dsql_hall.specs.driver.declared.caps.Caps.{Caps}
+use Rattle.dsql_hall.specs.driver.Wires.{FleetTold}
+use Rattle.dsql_hall.specs.history.declared.event.Event.TheVariants.{Run}
+use Rattle.dsql_hall.specs.player_wires.Told.{with_told}
 use Rattle.dsql_script_source.specs.Stops.{is_read_fault, no_read_failed}
 use Rattle.dsql_script_source.specs.declared.stop.Stop.{Stop}
 use Rattle.dsql_script_source.specs.declared.stop.Stop.TheVariants.{Read, Write, Memory, Refused, Full}

@@ -2,24 +2,24 @@
 -- what stopped the lines, what stopped the end, and the last stop.
 use Rattle.std.proofs.Common.{◌≡◌, ◌⊎◌, ℕ, ◌≤◌, Bool, true, false, List, ◌++◌, Option, length, refl, ap, sym, subst, ◌∙◌, inl, inr}
 use Rattle.std.specs.Prelude.{reverse, Result, Ok, Err}
-use Rattle.dsql_history.specs.driver.declared.caps.Caps.{Caps}
-use Rattle.dsql_history.specs.driver.Wires.{FleetTold}
-use Rattle.dsql_history.specs.declared.event.Event.{Event}
-use Rattle.dsql_history.specs.Readers.Journals.{journal}
-use Rattle.dsql_follows.specs.Moments.{Moment}
-use Rattle.dsql_follows.specs.Follows.{after, told}
-use Rattle.dsql_player_wires.specs.Extends.{Extends}
-use Rattle.dsql_player_wires.specs.Made.{Made}
-use Rattle.dsql_player_wires.specs.Stopped.{GivesAllBack, GotAllBack, NoSurplus, RecordsJournal, wants_of, with_answer}
-use Rattle.dsql_player_wires.specs.Told.{FleetTellsOn, retired_from, with_told}
-use Rattle.dsql_player_wires.specs.WiresFit.{is_wired, slot}
-use Rattle.dsql_player_wires.proofs.GivenBack.{got_all_back, none_to_give}
-use Rattle.dsql_player.specs.Planned.{plans_made}
-use Rattle.dsql_player.specs.Carried.{CarriesEnd, StopsInEnd}
-use Rattle.dsql_player.specs.Playing.{Playing, IsAt}
+use Rattle.dsql_hall.specs.driver.declared.caps.Caps.{Caps}
+use Rattle.dsql_hall.specs.driver.Wires.{FleetTold}
+use Rattle.dsql_hall.specs.history.declared.event.Event.{Event}
+use Rattle.dsql_hall.specs.history.Readers.Journals.{journal}
+use Rattle.dsql_hall.specs.follows.Moments.{Moment}
+use Rattle.dsql_hall.specs.follows.Follows.{after, told}
+use Rattle.dsql_hall.specs.player_wires.Extends.{Extends}
+use Rattle.dsql_hall.specs.player_wires.Made.{Made}
+use Rattle.dsql_hall.specs.player_wires.Stopped.{GivesAllBack, GotAllBack, NoSurplus, RecordsJournal, wants_of, with_answer}
+use Rattle.dsql_hall.specs.player_wires.Told.{FleetTellsOn, retired_from, with_told}
+use Rattle.dsql_hall.specs.player_wires.WiresFit.{is_wired, slot}
+use Rattle.dsql_hall.proofs.player_wires.GivenBack.{got_all_back, none_to_give}
+use Rattle.dsql_hall.specs.player.Planned.{plans_made}
+use Rattle.dsql_hall.specs.player.Carried.{CarriesEnd, StopsInEnd}
+use Rattle.dsql_hall.specs.player.Playing.{Playing, IsAt}
 use Rattle.dsql_script_report.specs.Lines.{text_of}
 use Rattle.dsql_script_show.specs.Report.{oldest, Shows, StopsBetween}
-use Rattle.dsql_script_source.specs.Plays.{Plays}
+use Rattle.dsql_script_source.specs.Plays.{PlaysBy}
 use Rattle.dsql_script_source.specs.Script.{Said}
 use Rattle.dsql_script_source.specs.declared.stop.Stop.{Stop}
 use Rattle.dsql_script_source.specs.declared.stop.Stop.TheVariants.{Read, Write, Memory, Full}
@@ -33,7 +33,7 @@ use Rattle.dsql_run_outcome.proofs.Finished.{shows_of_wrote, wrote_older}
 use Rattle.dsql_run_outcome.proofs.Writing.{stops_after_older}
 
 -- If the last stop is a write fault, the run was ended.
-so_ran : (ended final : Result (Unit {0}) Stop) → Finishes ended final → final ≡ Err Write → ran_out ended ≡ true
+pub so_ran : (ended final : Result (Unit {0}) Stop) → Finishes ended final → final ≡ Err Write → ran_out ended ≡ true
 so_ran ended final (inl same) is = let e : ended ≡ Err Write = sym same ∙ is in rw e refl
 so_ran ended final (inr (inl memory)) is = absurd (cc (sym memory ∙ is))
 so_ran ended final (inr (inr write)) is = write.1
@@ -43,7 +43,7 @@ failed_is (Err Write) is = refl
 failed_is _ is = absurd (cc is)
 
 -- If a run goes on and no write failed, its lines have come to an end.
-lines_over : (played : Result (Unit {0}) Stop) → ran_out played ≡ true → is_write_fault played ≡ false → IsLinesEnd played
+pub lines_over : (played : Result (Unit {0}) Stop) → ran_out played ≡ true → is_write_fault played ≡ false → IsLinesEnd played
 lines_over (Err Write) ran unfailed = absurd (cc unfailed)
 lines_over (Err Memory) ran unfailed = absurd (cc ran)
 lines_over (Err Full) ran unfailed = absurd (cc ran)
@@ -65,17 +65,17 @@ shown_before_end played ended final w mid n rest past same finishes is unfailed 
     let ran : ran_out played ≡ true = subst (λ r. ran_out r ≡ true) (same (so_ran ended final finishes is)) (so_ran ended final finishes is) in
     shows_of_wrote played w mid n past unfailed (not_wanting played ran) (wrote_older played w mid n rest past goes_on within wrote)
 
-plays_ended : (played ended : Result (Unit {0}) Stop) (bytes rest : Option (List ℕ)) (says : Said) → (ran_out ended ≡ true → ended ≡ played) → Plays played bytes rest says → Plays ended bytes rest says
-plays_ended played (Err Write) bytes rest says same plays = plays_first played bytes rest says plays
-plays_ended played (Err Memory) bytes rest says same plays = plays_first played bytes rest says plays
-plays_ended played (Err Full) bytes rest says same plays = plays_first played bytes rest says plays
-plays_ended played _ bytes rest says same plays = subst (λ r. Plays r bytes rest says) (sym (same refl)) plays
+plays_ended : (race : Bool) (played ended : Result (Unit {0}) Stop) (bytes rest : Option (List ℕ)) (says : Said) → (ran_out ended ≡ true → ended ≡ played) → PlaysBy race played bytes rest says → PlaysBy race ended bytes rest says
+plays_ended race played (Err Write) bytes rest says same plays = plays_first race played bytes rest says plays
+plays_ended race played (Err Memory) bytes rest says same plays = plays_first race played bytes rest says plays
+plays_ended race played (Err Full) bytes rest says same plays = plays_first race played bytes rest says plays
+plays_ended race played _ bytes rest says same plays = subst (λ r. PlaysBy race r bytes rest says) (sym (same refl)) plays
 
 -- By its last stop too, a run has of its script what it had when its lines were played.
-pub plays_finished : (played ended final : Result (Unit {0}) Stop) (bytes rest : Option (List ℕ)) (says : Said) → (ran_out ended ≡ true → ended ≡ played) → Finishes ended final → Plays played bytes rest says → Plays final bytes rest says
-plays_finished played ended final bytes rest says same (inl is) plays = rw is (plays_ended played ended bytes rest says same plays)
-plays_finished played ended final bytes rest says same (inr (inl memory)) plays = rw memory (plays_first played bytes rest says plays)
-plays_finished played ended final bytes rest says same (inr (inr write)) plays = rw write.0 (plays_first played bytes rest says plays)
+pub plays_finished : (race : Bool) (played ended final : Result (Unit {0}) Stop) (bytes rest : Option (List ℕ)) (says : Said) → (ran_out ended ≡ true → ended ≡ played) → Finishes ended final → PlaysBy race played bytes rest says → PlaysBy race final bytes rest says
+plays_finished race played ended final bytes rest says same (inl is) plays = rw is (plays_ended race played ended bytes rest says same plays)
+plays_finished race played ended final bytes rest says same (inr (inl memory)) plays = rw memory (plays_first race played bytes rest says plays)
+plays_finished race played ended final bytes rest says same (inr (inr write)) plays = rw write.0 (plays_first race played bytes rest says plays)
 
 -- How a run ended: what stopped its lines, what stopped it then, and its last stop. And the history after its lines
 -- were played, and at last.
@@ -154,12 +154,12 @@ either_short played ended final before left k asked run rest past w mid lent tol
     by false out = ended_short played ended final before left k asked run rest past w mid lent told_after e a l out
 
 -- A run that ran out by its last stop was ended.
-final_ran : (ended final : Result (Unit {0}) Stop) → Finishes ended final → ran_out final ≡ true → ran_out ended ≡ true
+pub final_ran : (ended final : Result (Unit {0}) Stop) → Finishes ended final → ran_out final ≡ true → ran_out ended ≡ true
 final_ran ended final (inl same) ran = subst (λ r. ran_out r ≡ true) same ran
 final_ran ended final (inr (inl memory)) ran = absurd (cc (sym (ap ran_out memory) ∙ ran))
 final_ran ended final (inr (inr write)) ran = write.1
 
-done_played : (played ended final : Result (Unit {0}) Stop) → (ran_out ended ≡ true → ended ≡ played) → Finishes ended final → final ≡ Ok tt → played ≡ Ok tt
+pub done_played : (played ended final : Result (Unit {0}) Stop) → (ran_out ended ≡ true → ended ≡ played) → Finishes ended final → final ≡ Ok tt → played ≡ Ok tt
 done_played played ended final same (inl is) done =
     let it : ended ≡ Ok tt = sym is ∙ done in
     sym (same (ap ran_out it)) ∙ it
@@ -174,7 +174,7 @@ pub record WrittenBy (played final : Result (Unit {0}) Stop) (w mid now : Option
 
 cut_by : {W : Type 0} (failing : Bool) (played ended final : Result (Unit {0}) Stop) (before left : Option (List ℕ)) (k : ℕ) (asked : Option Caps) (source_failed : Bool) (run : Event) (rest : Playing) (past : List Event) (w mid now : Option (List ℕ)) (n : ℕ) (lent : Lent W)
     → is_write_fault played ≡ failing → ran_out played ≡ true → final ≡ Err Write → Ends played ended final rest past → (l : LinesPlayed played before left k asked run rest w mid lent) → (played ≡ Err Read → source_failed ≡ true)
-    → WrittenBy played final w mid now n rest.past past → CutAtLine w run l.parts now ⊎ CutAtEnd before left asked l.lines source_failed w (told run l.parts) past now
+    → WrittenBy played final w mid now n rest.past past → CutAtLine w run l.parts now ⊎ CutAtEnd false before left asked l.lines source_failed w (told run l.parts) past now
 cut_by true played ended final before left k asked source_failed run rest past w mid now n lent is ran failed e l caused by =
     inl (subst (λ held. CutAtLine w run l.parts held) (sym (by.unwritten is)) (l.cut (failed_is played is)))
 cut_by false played ended final before left k asked source_failed run rest past w mid now n lent is ran failed e l caused by =
@@ -203,7 +203,7 @@ pub script_played : {W : Type 0} (played ended final : Result (Unit {0}) Stop) (
 script_played played ended final before left k asked source_failed run rest past w mid now n lent told_after e a l caused by = record {
   lines = l.lines;
   counted = λ over. l.counted (lines_ended played ended final e.same e.finishes over);
-  plays = plays_finished played ended final before left _ e.same e.finishes l.plays;
+  plays = plays_finished false played ended final before left _ e.same e.finishes l.plays;
   read = λ done. l.read (done_played played ended final e.same e.finishes done);
   follows = λ ran. (ended_follows played ended final before left k asked run rest past w mid lent e l (final_ran ended final e.finishes ran)).0;
   told = λ ran.
@@ -216,7 +216,7 @@ script_played played ended final before left k asked source_failed run rest past
       let follows = ended_follows played ended final before left k asked run rest past w mid lent e l ran in
       record {
         all = follows.0;
-        cut = subst (λ parts. CutAtLine w run parts now ⊎ CutAtEnd before left asked l.lines source_failed w (told run parts) past now) (sym follows.1)
+        cut = subst (λ parts. CutAtLine w run parts now ⊎ CutAtEnd false before left asked l.lines source_failed w (told run parts) past now) (sym follows.1)
             (cut_by (is_write_fault played) played ended final before left k asked source_failed run rest past w mid now n lent refl (played_ran played ended final rest past e ran) failed e l caused by);
       };
 }

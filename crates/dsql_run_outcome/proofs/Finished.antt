@@ -4,9 +4,9 @@ use Rattle.std.proofs.Common.{◌≡◌, ◌⊎◌, ℕ, ◌≤◌, Bool, true, 
 use Rattle.std.specs.Prelude.{Result, Ok, Err, nat_lt, nat_le}
 use Rattle.std.proofs.lemmas.Bool.{lt-ltb, ltb-true, le-leb, leb-true}
 use Rattle.std.proofs.lemmas.List.{append-nil}
-use Rattle.dsql_history.specs.driver.Streams.{HasRisen, has_risen, last_count}
-use Rattle.dsql_history.specs.declared.event.Event.{Event}
-use Rattle.dsql_player_wires.specs.Extends.{Extends}
+use Rattle.dsql_hall.specs.driver.Streams.{HasRisen, has_risen, last_count}
+use Rattle.dsql_hall.specs.history.declared.event.Event.{Event}
+use Rattle.dsql_hall.specs.player_wires.Extends.{Extends}
 use Rattle.dsql_script_report.specs.Lines.{text_of}
 use Rattle.dsql_script_show.specs.Report.{with_text, ShowsFront, Shows}
 use Rattle.dsql_script_source.specs.declared.stop.Stop.{Stop}

@@ -5,20 +5,20 @@ use Rattle.std.specs.List.{list_all}
 use Rattle.std.proofs.lemmas.Bool.{and_from, and_parts}
 use Rattle.std.proofs.lemmas.List.{reverse-append}
 use Rattle.std.proofs.lemmas.List.Folds.{list_all-append}
-use Rattle.dsql_history.specs.driver.declared.caps.Caps.{Caps}
-use Rattle.dsql_history.specs.declared.event.Event.{Event}
-use Rattle.dsql_history.specs.declared.event.Event.TheVariants.{Run}
-use Rattle.dsql_follows.specs.declared.line.Line.{Line}
-use Rattle.dsql_follows.specs.declared.line.Line.TheVariants.{Skip}
-use Rattle.dsql_follows.specs.Moments.{Moment, just_begun, lines_of as lines_of_client}
-use Rattle.dsql_follows.specs.Sentences.{Part, after_part}
-use Rattle.dsql_follows.specs.Turns.{clients, has_run_out}
-use Rattle.dsql_follows.specs.Follows.{FollowsLine, FollowsLines, after, told}
-use Rattle.dsql_player.specs.Carried.{Carries, CarriesEnd, StopsInEnd, StopsInLine, part}
-use Rattle.dsql_player_wires.specs.Made.{Made}
-use Rattle.dsql_player_wires.specs.Stopped.{NoSurplus, PlansAllOrNothing, Surplus}
-use Rattle.dsql_player.specs.Planned.{plans_made, plans_of}
-use Rattle.dsql_player.specs.Playing.{Playing, IsAt}
+use Rattle.dsql_hall.specs.driver.declared.caps.Caps.{Caps}
+use Rattle.dsql_hall.specs.history.declared.event.Event.{Event}
+use Rattle.dsql_hall.specs.history.declared.event.Event.TheVariants.{Run}
+use Rattle.dsql_hall.specs.follows.declared.line.Line.{Line}
+use Rattle.dsql_hall.specs.follows.declared.line.Line.TheVariants.{Skip}
+use Rattle.dsql_hall.specs.follows.Moments.{Moment, just_begun, lines_of as lines_of_client}
+use Rattle.dsql_hall.specs.follows.Sentences.{Part, after_part}
+use Rattle.dsql_hall.specs.follows.Turns.{clients, has_run_out}
+use Rattle.dsql_hall.specs.follows.Follows.{FollowsLine, FollowsLines, after, told}
+use Rattle.dsql_hall.specs.player.Carried.{Carries, CarriesEnd, StopsInEnd, StopsInLine, part}
+use Rattle.dsql_hall.specs.player_wires.Made.{Made}
+use Rattle.dsql_hall.specs.player_wires.Stopped.{NoSurplus, PlansAllOrNothing, Surplus}
+use Rattle.dsql_hall.specs.player.Planned.{plans_made, plans_of}
+use Rattle.dsql_hall.specs.player.Playing.{Playing, IsAt}
 use Rattle.dsql_script_source.specs.Script.{is_skip}
 use Rattle.dsql_run_outcome.specs.Followed.{FollowsAll, FollowsSoFar, StopsShort, lines_of}
 use Rattle.dsql_run_outcome.specs.Lent.{StopsPlanning}

@@ -2,21 +2,21 @@
 -- closes it at each way in which the lines can stop.
 use Rattle.std.proofs.Common.{◌≡◌, ℕ, ◌+◌, Bool, true, false, List, [], ◌∷◌, ◌++◌, length, Option, Some, None, refl, ap, sym, subst, ◌∙◌, append_assoc, arith, inl, inr}
 use Rattle.std.specs.Prelude.{reverse, is_some, IfErr, IfOk, IfSome, Result, Ok, Err}
-use Rattle.dsql_history.specs.driver.declared.caps.Caps.{Caps}
-use Rattle.dsql_history.specs.driver.Wires.{FleetTold}
-use Rattle.dsql_history.specs.declared.event.Event.{Event}
-use Rattle.dsql_history.specs.declared.event.Event.TheVariants.{Run}
-use Rattle.dsql_follows.specs.declared.line.Line.{Line}
-use Rattle.dsql_follows.specs.Moments.{Moment, just_begun}
-use Rattle.dsql_follows.specs.Sentences.{Part}
-use Rattle.dsql_follows.specs.Follows.{after, told}
-use Rattle.dsql_player.specs.Carried.{Carries, StopsInLine, part}
-use Rattle.dsql_wire.specs.Journaled.{Journaled}
-use Rattle.dsql_player_wires.specs.Made.{Made}
-use Rattle.dsql_player_wires.specs.Stopped.{NoSurplus, RecordsAtMost, wants_of, with_answer}
-use Rattle.dsql_player_wires.specs.WiresFit.{WiresFit}
-use Rattle.dsql_player.specs.Planned.{plans_made, plans_of}
-use Rattle.dsql_player.specs.Playing.{Playing, IsAt}
+use Rattle.dsql_hall.specs.driver.declared.caps.Caps.{Caps}
+use Rattle.dsql_hall.specs.driver.Wires.{FleetTold}
+use Rattle.dsql_hall.specs.history.declared.event.Event.{Event}
+use Rattle.dsql_hall.specs.history.declared.event.Event.TheVariants.{Run}
+use Rattle.dsql_hall.specs.follows.declared.line.Line.{Line}
+use Rattle.dsql_hall.specs.follows.Moments.{Moment, just_begun}
+use Rattle.dsql_hall.specs.follows.Sentences.{Part}
+use Rattle.dsql_hall.specs.follows.Follows.{after, told}
+use Rattle.dsql_hall.specs.player.Carried.{Carries, StopsInLine, part}
+use Rattle.dsql_hall.specs.wire.Journaled.{Journaled}
+use Rattle.dsql_hall.specs.player_wires.Made.{Made}
+use Rattle.dsql_hall.specs.player_wires.Stopped.{NoSurplus, RecordsAtMost, wants_of, with_answer}
+use Rattle.dsql_hall.specs.player_wires.WiresFit.{WiresFit}
+use Rattle.dsql_hall.specs.player.Planned.{plans_made, plans_of}
+use Rattle.dsql_hall.specs.player.Playing.{Playing, IsAt}
 use Rattle.dsql_script_reader.specs.declared.script.ScriptLine.{ScriptLine}
 use Rattle.dsql_script_report.specs.Lines.{text_of}
 use Rattle.dsql_script_show.specs.Report.{StopsBetween, oldest}
@@ -169,7 +169,7 @@ first_stops stop first before reader left rest k asked skipped caps p w now lent
       lines = skipped;
       parts = blank (reverse skipped);
       counted = λ over. absurd (play_ends_none stop kind over);
-      plays = first_plays stop before rest (saying asked skipped) kind (read_first first before reader left asked skipped body h.reads);
+      plays = first_plays false stop before rest (saying asked skipped) kind (read_first first before reader left asked skipped body h.reads);
       read = λ is. absurd (cc is);
       follows = λ ran. follows;
       at = λ ran. begun_at caps skipped p h.silent at;

@@ -2,7 +2,7 @@
 -- the status back to what stopped the run.
 use Rattle.std.proofs.Common.{◌≡◌, ◌⊎◌, ℕ, true, refl, ap, sym, subst, ◌∙◌, inl, inr}
 use Rattle.std.specs.Prelude.{Result, Ok, Err}
-use Rattle.dsql_history.specs.driver.Streams.{HasRisen, has_risen}
+use Rattle.dsql_hall.specs.driver.Streams.{HasRisen, has_risen}
 use Rattle.dsql_script_show.specs.Report.{with_text}
 use Rattle.dsql_script_generator.specs.Script.{generated}
 use Rattle.dsql_script_source.specs.declared.stop.Stop.{Stop}

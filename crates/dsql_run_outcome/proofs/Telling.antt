@@ -1,11 +1,11 @@
 -- What the status says of a run. The argument traces the status back to what stopped the run.
 use Rattle.std.proofs.Common.{◌≡◌, ◌⊎◌, ℕ, Bool, true, List, Option, refl, ap, sym, subst, ◌∙◌, inl, inr}
 use Rattle.std.specs.Prelude.{Result, Ok, Err}
-use Rattle.dsql_history.specs.driver.Streams.{HasRisen, has_risen}
+use Rattle.dsql_hall.specs.driver.Streams.{HasRisen, has_risen}
 use Rattle.dsql_script_forms.specs.declared.fault.LineFault.{LineFault}
 use Rattle.dsql_run_outcome.specs.Notes.{note_of, status_of, is_status, failed_status, Tells}
 use Rattle.dsql_script_show.specs.Report.{with_text}
-use Rattle.dsql_run_outcome.specs.Headline.{Seen, SeenNotes, Ran, NotBegun, PlaysAndTells, PlaysWhole, RefusesWords}
+use Rattle.dsql_run_outcome.specs.Headline.{Seen, SeenNotes, Ran, NotBegun, RunsAndTells, RunsWhole, RefusesWords, report}
 use Rattle.dsql_script_show.specs.declared.showing.ShowFault.{ShowFault}
 use Rattle.dsql_script_show.specs.declared.showing.ShowFault.TheVariants as shows
 use Rattle.dsql_script_source.specs.declared.stop.Stop.{Stop}
@@ -28,9 +28,9 @@ told_of_none (Ok done) risen w now told = (refl, told.1)
 told_of_none (Err stop) risen w now (inl all) = absurd (no_stop stop (sym all.status_is))
 told_of_none (Err stop) risen w now (inr part) = absurd (no_cut stop part.fault (sym part.status_is))
 
-whole_of_ran : (stopped : Result (Unit {0}) Stop) (before after : Seen) (one two : SeenNotes) → stopped ≡ Ok tt → two.written ≡ one.written → Ran stopped before after → PlaysWhole before after one two
-whole_of_ran (Err stop) before after one two is untold r = absurd (cc is)
-whole_of_ran (Ok done) before after one two is untold r = record {
+whole_of_ran : (race : Bool) (stopped : Result (Unit {0}) Stop) (before after : Seen) (one two : SeenNotes) → stopped ≡ Ok tt → two.written ≡ one.written → Ran race stopped before after → RunsWhole race report before after one two
+whole_of_ran race (Err stop) before after one two is untold r = absurd (cc is)
+whole_of_ran race (Ok done) before after one two is untold r = record {
   history = r.history;
   asked = r.asked;
   lines = r.lines;
@@ -51,16 +51,16 @@ whole_of_ran (Ok done) before after one two is untold r = record {
   untold = untold;
 }
 
-whole_of : (stopped : Result (Unit {0}) Stop) (before after : Seen) (one two : SeenNotes) → stopped ≡ Ok tt → two.written ≡ one.written → Ran stopped before after ⊎ NotBegun stopped before after
-    → PlaysWhole before after one two
-whole_of stopped before after one two is untold (inl r) = whole_of_ran stopped before after one two is untold r
-whole_of stopped before after one two is untold (inr n) = absurd (cc (sym is ∙ n.memory))
+whole_of : (race : Bool) (stopped : Result (Unit {0}) Stop) (before after : Seen) (one two : SeenNotes) → stopped ≡ Ok tt → two.written ≡ one.written → Ran race stopped before after ⊎ NotBegun stopped before after
+    → RunsWhole race report before after one two
+whole_of race stopped before after one two is untold (inl r) = whole_of_ran race stopped before after one two is untold r
+whole_of race stopped before after one two is untold (inr n) = absurd (cc (sym is ∙ n.memory))
 
 -- Status 0 means that the whole script was played.
-pub whole_at_zero : (before after : Seen) (one two : SeenNotes) (status : ℕ) → status ≡ 0 → PlaysAndTells before after one two status → PlaysWhole before after one two
-whole_at_zero before after one two status is p =
+pub whole_at_zero : (race : Bool) (before after : Seen) (one two : SeenNotes) (status : ℕ) → status ≡ 0 → RunsAndTells race before after one two status → RunsWhole race report before after one two
+whole_at_zero race before after one two status is p =
     let none = told_of_none p.stopped (has_risen one.faults two.faults) one.written two.written (subst (λ s. Tells p.stopped (has_risen one.faults two.faults) one.written two.written s) is p.told) in
-    whole_of p.stopped before after one two none.0 none.1 p.ran
+    whole_of race p.stopped before after one two none.0 none.1 p.ran
 
 status_is_known : (stop : Stop) → is_status (status_of stop) ≡ true
 status_is_known Read = refl
@@ -80,8 +80,8 @@ told_is_known (Err stop) risen w now status (inl all) = rw all.status_is (status
 told_is_known (Err stop) risen w now status (inr part) = rw part.status_is (failed_status_is_known stop part.fault)
 
 -- A run has one of the statuses.
-pub known_of_run : (before after : Seen) (one two : SeenNotes) (status : ℕ) → PlaysAndTells before after one two status → is_status status ≡ true
-known_of_run before after one two status p = told_is_known p.stopped (has_risen one.faults two.faults) one.written two.written status p.told
+pub known_of_run : (race : Bool) (before after : Seen) (one two : SeenNotes) (status : ℕ) → RunsAndTells race before after one two status → is_status status ≡ true
+known_of_run race before after one two status p = told_is_known p.stopped (has_risen one.faults two.faults) one.written two.written status p.told
 
 pub known_of_words : (one two : SeenNotes) (status : ℕ) → RefusesWords one two status → is_status status ≡ true
 known_of_words one two status r = elim r.status_is [ inl done ↦ rw done refl | inr cut ↦ rw cut refl ]
@@ -106,8 +106,8 @@ stopped_at_three (Err stop) risen w now status is (inl all) =
 stopped_at_three (Err stop) risen w now status is (inr part) = absurd (three_of_no_cut stop part.fault (sym part.status_is ∙ is))
 
 -- Status 3 comes from a fault of the source.
-pub read_fault_at_three : (before after : Seen) (one two : SeenNotes) (status : ℕ) → status ≡ 3 → PlaysAndTells before after one two status → HasRisen before.read_faults after.read_faults
-read_fault_at_three before after one two status is p =
+pub read_fault_at_three : (race : Bool) (before after : Seen) (one two : SeenNotes) (status : ℕ) → status ≡ 3 → RunsAndTells race before after one two status → HasRisen before.read_faults after.read_faults
+read_fault_at_three race before after one two status is p =
     let at : p.stopped ≡ Err Read = (stopped_at_three p.stopped (has_risen one.faults two.faults) one.written two.written status is p.told).0 in
     elim p.ran [ inl r ↦ r.read_fault at | inr n ↦ absurd (cc (sym at ∙ n.memory)) ]
 
@@ -125,9 +125,9 @@ stopped_at_four (Err stop) risen w now status is (inl all) = inl (ap Err (write_
 stopped_at_four (Err stop) risen w now status is (inr part) = inr (part.caused (failed_at_four stop part.fault (sym part.status_is ∙ is)))
 
 -- Status 4 comes from a fault of the output or of the notes.
-pub write_fault_at_four : (before after : Seen) (one two : SeenNotes) (status : ℕ) → status ≡ 4 → PlaysAndTells before after one two status
+pub write_fault_at_four : (race : Bool) (before after : Seen) (one two : SeenNotes) (status : ℕ) → status ≡ 4 → RunsAndTells race before after one two status
     → HasRisen before.write_faults after.write_faults ⊎ HasRisen one.faults two.faults
-write_fault_at_four before after one two status is p =
+write_fault_at_four race before after one two status is p =
     elim (stopped_at_four p.stopped (has_risen one.faults two.faults) one.written two.written status is p.told) [
       | inl at ↦ inl (elim p.ran [ inl r ↦ r.write_fault at | inr n ↦ absurd (cc (sym at ∙ n.memory)) ])
       | inr notes ↦ inr notes

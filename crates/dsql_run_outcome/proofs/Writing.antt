@@ -3,10 +3,10 @@
 use Rattle.std.proofs.Common.{◌≡◌, ℕ, ◌≤◌, List, [], ◌++◌, Option, Some, None, length, take, drop, refl, sym, ap, ◌∙◌, arith}
 use Rattle.std.specs.Prelude.{reverse, IfErr, OnErr, OnOk, Result, Ok, Err}
 use Rattle.std.proofs.lemmas.List.{append_assoc, append-nil, reverse-append, reverse-reverse, length-reverse, take-append-le, take-append-drop, take_all}
-use Rattle.dsql_history.specs.declared.event.Event.{Event}
-use Rattle.dsql_player_wires.specs.Extends.{Extends}
-use Rattle.dsql_player.specs.declared.halt.Halt.{Halt}
-use Rattle.dsql_player.specs.declared.halt.Halt.TheVariants as halts
+use Rattle.dsql_hall.specs.history.declared.event.Event.{Event}
+use Rattle.dsql_hall.specs.player_wires.Extends.{Extends}
+use Rattle.dsql_hall.specs.player.declared.halt.Halt.{Halt}
+use Rattle.dsql_hall.specs.player.declared.halt.Halt.TheVariants as halts
 use Rattle.dsql_script_report.specs.Lines.{text_of}
 use Rattle.dsql_script_show.specs.Report.{with_text, ShowsFront, StopsBetween, oldest, Shows}
 use Rattle.dsql_script_show.proofs.Texts.{text_on}

@@ -1,11 +1,11 @@
 -- When a history follows the lines of a script.
 use Rattle.std.specs.Prelude.{◌≡◌, ◌⊎◌, true, List, ◌∷◌, ◌++◌, reverse, map}
-use Rattle.dsql_history.specs.declared.event.Event.{Event}
-use Rattle.dsql_follows.specs.declared.line.Line.{Line}
-use Rattle.dsql_follows.specs.Moments.{met, at_end}
-use Rattle.dsql_follows.specs.Sentences.{Part, runs_in_turn}
-use Rattle.dsql_follows.specs.Follows.{Played, MakesSteps, FollowsLines, Follows, ends_in_turn, after, told, script, history}
-use Rattle.dsql_player.specs.Carried.{IsBeginningOf, part}
+use Rattle.dsql_hall.specs.history.declared.event.Event.{Event}
+use Rattle.dsql_hall.specs.follows.declared.line.Line.{Line}
+use Rattle.dsql_hall.specs.follows.Moments.{met, at_end}
+use Rattle.dsql_hall.specs.follows.Sentences.{Part, runs_in_turn}
+use Rattle.dsql_hall.specs.follows.Follows.{Played, MakesSteps, FollowsLines, Follows, ends_in_turn, after, told, script, history}
+use Rattle.dsql_hall.specs.player.Carried.{IsBeginningOf, part}
 
 -- Returns the lines of these parts, the last one first.
 abbrev pub lines_of : List Part → List Line

@@ -1,17 +1,17 @@
 -- What the fleet of a run records, with the faults that the lines of its script plan.
 use Rattle.std.specs.Prelude.{◌≡◌, ◌⊎◌, List, [], ◌∷◌, ◌++◌, reverse, Option, is_some}
-use Rattle.dsql_history.specs.driver.Wires.{WireTold, FleetTold}
-use Rattle.dsql_history.specs.driver.declared.wire.Fleet.{Ghosts}
-use Rattle.dsql_wire.specs.Journaled.{Journaled}
-use Rattle.dsql_history.specs.declared.event.Event.{Event}
-use Rattle.dsql_follows.specs.declared.line.Line.{Line}
-use Rattle.dsql_follows.specs.Sentences.{Part}
-use Rattle.dsql_follows.specs.Follows.{told}
-use Rattle.dsql_player_wires.specs.Made.{Made}
-use Rattle.dsql_player_wires.specs.Stopped.{GotAllBack, MayCome, NoSurplus, Surplus, wants_of, with_answer}
-use Rattle.dsql_player_wires.specs.Told.{TellsJust}
-use Rattle.dsql_player_wires.specs.WiresFit.{WiresFit}
-use Rattle.dsql_player.specs.Planned.{plans_of, plans_made}
+use Rattle.dsql_hall.specs.driver.Wires.{WireTold, FleetTold}
+use Rattle.dsql_hall.specs.driver.declared.wire.Fleet.{Ghosts}
+use Rattle.dsql_hall.specs.wire.Journaled.{Journaled}
+use Rattle.dsql_hall.specs.history.declared.event.Event.{Event}
+use Rattle.dsql_hall.specs.follows.declared.line.Line.{Line}
+use Rattle.dsql_hall.specs.follows.Sentences.{Part}
+use Rattle.dsql_hall.specs.follows.Follows.{told}
+use Rattle.dsql_hall.specs.player_wires.Made.{Made}
+use Rattle.dsql_hall.specs.player_wires.Stopped.{GotAllBack, MayCome, NoSurplus, Surplus, wants_of, with_answer}
+use Rattle.dsql_hall.specs.player_wires.Told.{TellsJust}
+use Rattle.dsql_hall.specs.player_wires.WiresFit.{WiresFit}
+use Rattle.dsql_hall.specs.player.Planned.{plans_of, plans_made}
 use Rattle.dsql_run_outcome.specs.Followed.{StopsShort, lines_of}
 
 -- A fleet that is lent to a run: what it recorded as the run began, what it records at present, and its wires.

@@ -1,25 +1,25 @@
 -- What holds after each part of playing a script.
 use Rattle.std.specs.Prelude.{ℕ, ◌≡◌, ◌≤◌, ◌+◌, ◌⊎◌, Bool, true, false, List, [], length, Option, IfSome, Result, Ok, Err, OnOk}
 use Rattle.std.specs.List.{list_all}
-use Rattle.dsql_history.specs.driver.declared.caps.Caps.{Caps}
-use Rattle.dsql_history.specs.driver.declared.wire.Fleet.{Ghosts}
-use Rattle.dsql_history.specs.driver.Streams.{HasRisen}
-use Rattle.dsql_history.specs.driver.Wires.{FleetTold}
-use Rattle.dsql_history.specs.pool.Pooled.{open_count}
-use Rattle.dsql_history.specs.declared.event.Event.{Event}
-use Rattle.dsql_history.specs.Legal.{Legal}
-use Rattle.dsql_history.specs.Readers.Course.{has_ended}
-use Rattle.dsql_history.specs.Readers.Pool.{pool}
-use Rattle.dsql_history.specs.Readers.Unfinished.{unfinished}
-use Rattle.dsql_history.specs.Rules.House.{is_quiet}
-use Rattle.dsql_follows.specs.declared.line.Line.{Line}
-use Rattle.dsql_follows.specs.Sentences.{Part}
-use Rattle.dsql_follows.specs.Follows.{after}
-use Rattle.dsql_player_wires.specs.Extends.{Extends}
-use Rattle.dsql_player_wires.specs.Told.{SameAbility, with_told}
-use Rattle.dsql_player.specs.Naming.{times}
-use Rattle.dsql_player.specs.Planned.{plans_made}
-use Rattle.dsql_player.specs.Playing.{Playing, IsAt}
+use Rattle.dsql_hall.specs.driver.declared.caps.Caps.{Caps}
+use Rattle.dsql_hall.specs.driver.declared.wire.Fleet.{Ghosts}
+use Rattle.dsql_hall.specs.driver.Streams.{HasRisen}
+use Rattle.dsql_hall.specs.driver.Wires.{FleetTold}
+use Rattle.dsql_hall.specs.history.pool.Pooled.{open_count}
+use Rattle.dsql_hall.specs.history.declared.event.Event.{Event}
+use Rattle.dsql_hall.specs.history.Legal.{Legal}
+use Rattle.dsql_hall.specs.history.Readers.Course.{has_ended}
+use Rattle.dsql_hall.specs.history.Readers.Pool.{pool}
+use Rattle.dsql_hall.specs.history.Readers.Unfinished.{unfinished}
+use Rattle.dsql_hall.specs.history.Rules.House.{is_quiet}
+use Rattle.dsql_hall.specs.follows.declared.line.Line.{Line}
+use Rattle.dsql_hall.specs.follows.Sentences.{Part}
+use Rattle.dsql_hall.specs.follows.Follows.{after}
+use Rattle.dsql_hall.specs.player_wires.Extends.{Extends}
+use Rattle.dsql_hall.specs.player_wires.Told.{SameAbility, with_told}
+use Rattle.dsql_hall.specs.player.Naming.{times}
+use Rattle.dsql_hall.specs.player.Planned.{plans_made}
+use Rattle.dsql_hall.specs.player.Playing.{Playing, IsAt}
 use Rattle.dsql_script_reader.specs.ScriptHead.{Progress}
 use Rattle.dsql_script_reader.specs.declared.script.ScriptLine.{ScriptLine}
 use Rattle.dsql_script_report.specs.Lines.{text_of}

@@ -1,24 +1,24 @@
 -- How a run goes: what stops it, where the sink fails, and what is written.
 use Rattle.std.specs.Prelude.{ℕ, ◌≡◌, ◌⊎◌, Bool, true, false, ◌||◌, List, [], ◌∷◌, Option, IfSome, Result, Ok, Err}
 use Rattle.std.specs.List.{list_all}
-use Rattle.dsql_history.specs.driver.declared.caps.Caps.{Caps}
-use Rattle.dsql_history.specs.driver.Wires.{WireTold}
-use Rattle.dsql_wire.specs.Journaled.{Journaled}
-use Rattle.dsql_history.specs.declared.event.Event.{Event}
-use Rattle.dsql_history.specs.Readers.Course.{has_ended}
-use Rattle.dsql_follows.specs.declared.line.Line.{Line}
-use Rattle.dsql_follows.specs.Moments.{Moment}
-use Rattle.dsql_follows.specs.Sentences.{Part}
-use Rattle.dsql_follows.specs.Follows.{told}
-use Rattle.dsql_player_wires.specs.WiresFit.{WiresFit}
-use Rattle.dsql_player.specs.declared.halt.Halt.{Halt}
-use Rattle.dsql_player.specs.declared.halt.Halt.TheVariants as halts
-use Rattle.dsql_player.specs.Playing.{Playing, IsAt, IsReady}
+use Rattle.dsql_hall.specs.driver.declared.caps.Caps.{Caps}
+use Rattle.dsql_hall.specs.driver.Wires.{WireTold}
+use Rattle.dsql_hall.specs.wire.Journaled.{Journaled}
+use Rattle.dsql_hall.specs.history.declared.event.Event.{Event}
+use Rattle.dsql_hall.specs.history.Readers.Course.{has_ended}
+use Rattle.dsql_hall.specs.follows.declared.line.Line.{Line}
+use Rattle.dsql_hall.specs.follows.Moments.{Moment}
+use Rattle.dsql_hall.specs.follows.Sentences.{Part}
+use Rattle.dsql_hall.specs.follows.Follows.{told}
+use Rattle.dsql_hall.specs.player_wires.WiresFit.{WiresFit}
+use Rattle.dsql_hall.specs.player.declared.halt.Halt.{Halt}
+use Rattle.dsql_hall.specs.player.declared.halt.Halt.TheVariants as halts
+use Rattle.dsql_hall.specs.player.Playing.{Playing, IsAt, IsReady}
 use Rattle.dsql_script_report.specs.Lines.{text_of}
 use Rattle.dsql_script_show.specs.Report.{with_text, ShowsFront, StopsBetween, Shows}
 use Rattle.dsql_script_show.specs.declared.showing.ShowFault.{ShowFault}
 use Rattle.dsql_script_show.specs.declared.showing.ShowFault.TheVariants as shows
-use Rattle.dsql_script_source.specs.Plays.{Plays, saying}
+use Rattle.dsql_script_source.specs.Plays.{PlaysBy, saying}
 use Rattle.dsql_script_source.specs.Script.{is_skip}
 use Rattle.dsql_script_source.specs.declared.stop.Stop.{Stop}
 use Rattle.dsql_script_source.specs.declared.stop.Stop.TheVariants.{Read, Write, Memory, Refused, Full}
@@ -30,6 +30,11 @@ use Rattle.dsql_run_outcome.specs.Followed.{FollowsAll, lines_of}
 abbrev pub stop_of_halt : Halt → Stop
 stop_of_halt halts.Memory = Memory
 stop_of_halt halts.Full = Full
+
+-- Returns what stops a run by what stops its race, if anything does.
+abbrev pub stop_of : Result Unit Halt → Result Unit Stop
+stop_of (Ok done) = Ok tt
+stop_of (Err halt) = Err (stop_of_halt halt)
 
 abbrev pub stop_of_show : ShowFault → Stop
 stop_of_show shows.Failed = Write
@@ -124,12 +129,13 @@ abbrev pub CutAtLine : Option (List ℕ) → Event → List Part → Option (Lis
 CutAtLine w run parts now = CutInLast w run parts now ⊎ CutAtFirst w run parts now
 
 -- Holds if the sink failed as the end of the run was written. Everything before the end was written, and not
--- all of the end. The lines had come to an end, and the record says what was played of them.
-pub record CutAtEnd (before after : Option (List ℕ)) (asked : Option Caps) (lines : List Line)
+-- all of the end. The lines had come to an end, and the record says what the run had of them. The script is for a race
+-- if the flag is true.
+pub record CutAtEnd (race : Bool) (before after : Option (List ℕ)) (asked : Option Caps) (lines : List Line)
     (source_failed : Bool) (w : Option (List ℕ)) (rest past : List Event) (now : Option (List ℕ)) : Type 0 where
   pub played : Result Unit Stop
   pub over : IsLinesEnd played
-  pub plays : Plays played before after (saying asked lines)
+  pub plays : PlaysBy race played before after (saying asked lines)
   pub read : played ≡ Ok tt → IfSome after (λ bytes. bytes ≡ [])
   pub caused : played ≡ Err Read → source_failed ≡ true
   pub written : StopsBetween w (text_of rest) (text_of past) now
@@ -141,7 +147,7 @@ pub record CutShort (before after : Option (List ℕ)) (asked : Option Caps) (li
     (now : Option (List ℕ)) : Type 0 where
   pub all : FollowsAll run lines past
   pub cut : CutAtLine w run all.played.parts now
-      ⊎ CutAtEnd before after asked lines source_failed w (told run all.played.parts) past now
+      ⊎ CutAtEnd false before after asked lines source_failed w (told run all.played.parts) past now
 
 -- What was written.
 

@@ -1,16 +1,16 @@
 -- What a run does if its summary is asked for instead of its report, and what a generated script is.
 use Rattle.std.specs.Prelude.{ℕ, ◌≡◌, ◌⊎◌, Bool, true, false, List, length, Option, Some, None, Result, Ok, Err}
-use Rattle.dsql_history.specs.driver.Streams.{HasRisen, has_risen}
-use Rattle.dsql_history.specs.declared.event.Event.{Event}
-use Rattle.dsql_follows.specs.declared.line.Line.{Line}
+use Rattle.dsql_hall.specs.driver.Streams.{HasRisen, has_risen}
+use Rattle.dsql_hall.specs.history.declared.event.Event.{Event}
+use Rattle.dsql_hall.specs.follows.declared.line.Line.{Line}
 use Rattle.dsql_script_show.specs.Report.{with_text, ShowsFront}
 use Rattle.dsql_script_show.specs.Summary.{line_of, summary_of}
 use Rattle.dsql_script_generator.specs.Script.{generated}
 use Rattle.dsql_script_source.specs.declared.stop.Stop.{Stop}
 use Rattle.dsql_script_source.specs.declared.stop.Stop.TheVariants.{Write, Memory, Full}
 use Rattle.dsql_script_generator.specs.declared.words.Command.{Command}
-use Rattle.dsql_script_generator.specs.declared.words.Command.TheVariants.{Play, Summarize, Generate}
-use Rattle.dsql_run_outcome.specs.Headline.{NotBegun, PlaysWholeAs, Ran, Seen, SeenNotes}
+use Rattle.dsql_script_generator.specs.declared.words.Command.TheVariants.{Play, Race, Summarize, Generate}
+use Rattle.dsql_run_outcome.specs.Headline.{NotBegun, Ran, RunsWhole, Seen, SeenNotes}
 use Rattle.dsql_run_outcome.specs.Notes.{Tells}
 use Rattle.dsql_run_outcome.specs.Runs.{Finishes, is_write_fault}
 
@@ -32,7 +32,7 @@ WritesPiece _ text w now = now ≡ with_text w text
 
 -- Holds if a run was played without its report, this stopped it, and so much of its summary was written.
 pub record Summarized (stopped told : Result Unit Stop) (before after : Seen) : Type 0 where
-  pub ran : Ran stopped (unreported before) (unreported after)
+  pub ran : Ran false stopped (unreported before) (unreported after)
   pub written : WritesPiece told (summary ran.lines ran.history) before.written after.written
 
 -- Holds if a script was played for its summary. The notes and the status report what stopped it, or what stopped the
@@ -49,7 +49,7 @@ pub record SumsUpAndTells (before after : Seen) (notes_before notes_after : Seen
 
 -- Holds if the whole of a script was played, and its summary was written.
 abbrev pub SumsUpWhole : Seen → Seen → SeenNotes → SeenNotes → Type 0
-SumsUpWhole before after notes_before notes_after = PlaysWholeAs summary before after notes_before notes_after
+SumsUpWhole before after notes_before notes_after = RunsWhole false summary before after notes_before notes_after
 
 -- A view of an output: what it holds, and how often it failed.
 abbrev pub SeenOutput : Type 0
@@ -73,8 +73,9 @@ abbrev pub IfGenerates : Option Command → (ℕ → Type 0) → Type 0
 IfGenerates (Some (Generate n)) holds = holds n
 IfGenerates _ holds = Unit {0}
 
--- Is true if the command plays a script.
-abbrev pub plays_a_script : Option Command → Bool
-plays_a_script (Some Play) = true
-plays_a_script (Some Summarize) = true
-plays_a_script _ = false
+-- Is true if the command runs a script: it plays it, or races it.
+abbrev pub runs_a_script : Option Command → Bool
+runs_a_script (Some Play) = true
+runs_a_script (Some Race) = true
+runs_a_script (Some Summarize) = true
+runs_a_script _ = false

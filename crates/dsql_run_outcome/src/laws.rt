@@ -1,29 +1,29 @@
 //! What follows from the definitions of runs. Each law is the contract of a function that does nothing. A
 //! history is read newest first.
 ghost use Rattle.std.specs.Prelude.{◌≡◌, ◌⊎◌, ◌≤◌, ◌∷◌, ◌++◌, ◌||◌, [], ℕ, List, Option, Bool, true, false, Result, Ok, Err, length};
-ghost use Rattle.dsql_history.specs.driver.Streams.{HasRisen};
-ghost use Rattle.dsql_history.specs.driver.declared.caps.Caps.{Caps};
-ghost use Rattle.dsql_history.specs.declared.event.Event.{Event};
-ghost use Rattle.dsql_history.specs.declared.event.Event.TheVariants.{Run};
-ghost use Rattle.dsql_follows.specs.declared.line.Line.{Line};
-ghost use Rattle.dsql_follows.specs.Follows.{after};
-ghost use Rattle.dsql_follows.specs.Sentences.{Part};
+ghost use Rattle.dsql_hall.specs.driver.Streams.{HasRisen};
+ghost use Rattle.dsql_hall.specs.driver.declared.caps.Caps.{Caps};
+ghost use Rattle.dsql_hall.specs.history.declared.event.Event.{Event};
+ghost use Rattle.dsql_hall.specs.history.declared.event.Event.TheVariants.{Run};
+ghost use Rattle.dsql_hall.specs.follows.declared.line.Line.{Line};
+ghost use Rattle.dsql_hall.specs.follows.Follows.{after};
+ghost use Rattle.dsql_hall.specs.follows.Sentences.{Part};
 ghost use Rattle.dsql_script_forms.specs.declared.fault.LineFault.{LineFault};
 ghost use Rattle.dsql_script_show.specs.Report.{Shows, with_text};
-ghost use Rattle.dsql_script_source.specs.Plays.{Plays};
-ghost use Rattle.dsql_script_source.specs.Script.{Said, SaysFirst};
+ghost use Rattle.dsql_script_source.specs.Plays.{PlaysBy};
+ghost use Rattle.dsql_script_source.specs.Script.{Said, SaysFirstBy};
 ghost use Rattle.dsql_script_source.specs.Stops.{no_read_failed};
 ghost use Rattle.dsql_script_source.specs.declared.stop.Stop.{Stop as Stopped};
 ghost use Rattle.dsql_script_source.specs.declared.stop.Stop.TheVariants.{Read, Write, Refused, Full};
-ghost use Rattle.dsql_player_wires.specs.Extends.{Extends};
-ghost use Rattle.dsql_player_wires.specs.Made.{Made};
-ghost use Rattle.dsql_player.specs.Carried.{Carries, StopsInEnd, StopsInLine, part};
-ghost use Rattle.dsql_player.specs.Planned.{plans_made, plans_of};
-ghost use Rattle.dsql_player.specs.Playing.{Playing};
+ghost use Rattle.dsql_hall.specs.player_wires.Extends.{Extends};
+ghost use Rattle.dsql_hall.specs.player_wires.Made.{Made};
+ghost use Rattle.dsql_hall.specs.player.Carried.{Carries, StopsInEnd, StopsInLine, part};
+ghost use Rattle.dsql_hall.specs.player.Planned.{plans_made, plans_of};
+ghost use Rattle.dsql_hall.specs.player.Playing.{Playing};
 ghost use Rattle.dsql_run_outcome.specs.Followed.{FollowsAll, FollowsSoFar, StopsShort};
-ghost use Rattle.dsql_player_wires.specs.Stopped.{PlansAllOrNothing, Surplus};
+ghost use Rattle.dsql_hall.specs.player_wires.Stopped.{PlansAllOrNothing, Surplus};
 ghost use Rattle.dsql_run_outcome.specs.Lent.{StopsPlanning};
-ghost use Rattle.dsql_run_outcome.specs.Headline.{PlaysAndTells, PlaysWhole, Seen, SeenNotes};
+ghost use Rattle.dsql_run_outcome.specs.Headline.{RunsAndTells, RunsWhole, Seen, SeenNotes, report};
 ghost use Rattle.dsql_run_outcome.specs.Notes.{note_of, is_status, Tells};
 ghost use Rattle.dsql_run_outcome.specs.Runs.{Finishes, IsLinesEnd, IsPlayStop, Writes, Wrote, is_cut, is_write_fault, no_write_failed, ran_out};
 
@@ -43,17 +43,17 @@ pub fn a_status_tells_what_stopped()
         → Tells stopped risen w now 10 → stopped ≡ Err Full }
 {}
 
-/// A run with status 0 was played whole. Each run has a known status, and the statuses 3 and 4 come from a
+/// A run with status 0 was played or raced whole. Each run has a known status, and the statuses 3 and 4 come from a
 /// fault of a stream.
 pub fn a_status_tells_what_was_done()
-    ensures whole { (before after : Seen) (one two : SeenNotes) (status : ℕ) → status ≡ 0
-        → PlaysAndTells before after one two status → PlaysWhole before after one two }
-    ensures known { (before after : Seen) (one two : SeenNotes) (status : ℕ) → PlaysAndTells before after one two status
-        → is_status status ≡ true }
-    ensures read_fault { (before after : Seen) (one two : SeenNotes) (status : ℕ) → status ≡ 3
-        → PlaysAndTells before after one two status → HasRisen before.read_faults after.read_faults }
-    ensures write_fault { (before after : Seen) (one two : SeenNotes) (status : ℕ) → status ≡ 4
-        → PlaysAndTells before after one two status → HasRisen before.write_faults after.write_faults
+    ensures whole { (race : Bool) (before after : Seen) (one two : SeenNotes) (status : ℕ) → status ≡ 0
+        → RunsAndTells race before after one two status → RunsWhole race report before after one two }
+    ensures known { (race : Bool) (before after : Seen) (one two : SeenNotes) (status : ℕ)
+        → RunsAndTells race before after one two status → is_status status ≡ true }
+    ensures read_fault { (race : Bool) (before after : Seen) (one two : SeenNotes) (status : ℕ) → status ≡ 3
+        → RunsAndTells race before after one two status → HasRisen before.read_faults after.read_faults }
+    ensures write_fault { (race : Bool) (before after : Seen) (one two : SeenNotes) (status : ℕ) → status ≡ 4
+        → RunsAndTells race before after one two status → HasRisen before.write_faults after.write_faults
         ⊎ HasRisen one.faults two.faults }
 {}
 
@@ -82,14 +82,14 @@ pub fn lines_follow_one_after_another()
 /// Whatever stopped a run, its script says first what the run has of it. This stays true however the run is
 /// finished.
 pub fn what_a_run_has_of_its_script()
-    ensures first { (r : Result (Unit {0}) Stopped) (left rest : Option (List ℕ)) (says : Said) → Plays r left rest says
-        → SaysFirst left says }
-    ensures stopped { (stop : Stopped) (left rest : Option (List ℕ)) (says : Said) → IsPlayStop stop
-        → SaysFirst left says
-        → Plays (Err stop) left rest says }
-    ensures finished { (played ended final : Result (Unit {0}) Stopped) (bytes rest : Option (List ℕ)) (says : Said)
-        → (ran_out ended ≡ true → ended ≡ played) → Finishes ended final → Plays played bytes rest says
-        → Plays final bytes rest says }
+    ensures first { (race : Bool) (r : Result (Unit {0}) Stopped) (left rest : Option (List ℕ)) (says : Said)
+        → PlaysBy race r left rest says → SaysFirstBy race left says }
+    ensures stopped { (race : Bool) (stop : Stopped) (left rest : Option (List ℕ)) (says : Said) → IsPlayStop stop
+        → SaysFirstBy race left says
+        → PlaysBy race (Err stop) left rest says }
+    ensures finished { (race : Bool) (played ended final : Result (Unit {0}) Stopped) (bytes rest : Option (List ℕ))
+        (says : Said) → (ran_out ended ≡ true → ended ≡ played) → Finishes ended final
+        → PlaysBy race played bytes rest says → PlaysBy race final bytes rest says }
 {}
 
 /// What was written of a run that is finished, and which streams didn't fail.

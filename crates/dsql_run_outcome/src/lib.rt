@@ -1,5 +1,5 @@
-//! Defines the result of a run of a script: its history, which follows the script, and what the run wrote and
-//! asked of the driver. Also reports the end of a run by a note and a status.
+//! Defines the result of a run of a script, which is played or raced. It is a history that carries the script out, and
+//! what the run wrote and asked of the driver. Also reports the end of a run by a note and a status.
 #![tactic(auto)]
 
 pub mod laws;
@@ -7,13 +7,15 @@ mod notes;
 mod stop;
 
 pub use dsql_driver_stream::write_whole;
-pub use dsql_follows::Line;
-pub use dsql_history::{Clock, Failed, Fleet, Gate, Sink, Source, Txt};
-pub use dsql_player::{Player, Room, carry_end, carry_line};
-pub use dsql_player_wires::{Wires, retire_all};
+pub use dsql_hall::{
+    Clock, Control, Failed, Fleet, Gate, Halt, KeptLine, Line, Memory, Past, Player, Raced, Room,
+    Sink, Source, Txt, Wires, carry_end, carry_line, needs_time, race, retire_all, set_limits,
+};
 pub use dsql_script_generator::{Command, GenerateFault, command_of, generate};
 pub use dsql_script_reader::ScriptLine;
 pub use dsql_script_show::{ShowFault, Shown, show, summary_line, summary_of};
-pub use dsql_script_source::{ScriptReader, Stop, line_as_played, read_head};
+pub use dsql_script_source::{
+    ReadScript, ScriptReader, Stop, line_as_played, read_head, read_script,
+};
 pub use notes::{tell, tell_usage};
 pub use stop::{stop_of_halt, stop_of_show};

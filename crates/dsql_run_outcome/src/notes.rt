@@ -1,11 +1,11 @@
 ghost use Rattle.std.specs.Prelude.{◌≡◌, ◌≤◌, OnOk, OnErr, IfOk, string_bytes};
-ghost use Rattle.dsql_history.specs.driver.Streams.{HasRisen, has_risen};
+ghost use Rattle.dsql_hall.specs.driver.Streams.{HasRisen, has_risen};
 ghost use Rattle.dsql_script_show.specs.Report.{with_text, ShowsFront};
 ghost use Rattle.dsql_run_outcome.specs.Headline.{seen_notes, RefusesWords};
 ghost use Rattle.dsql_run_outcome.specs.Notes.{note_of, status_of, failed_status, Tells};
 
 use dsql_driver_stream::write_whole;
-use dsql_history::{Memory, Sink};
+use dsql_hall::{Memory, Sink};
 use dsql_script_show::ShowFault;
 use dsql_script_source::Stop;
 use std::alloc::Global;

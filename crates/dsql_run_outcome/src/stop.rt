@@ -2,7 +2,7 @@
 ghost use Rattle.std.specs.Prelude.{◌≡◌};
 ghost use Rattle.dsql_run_outcome.specs.Runs.{stop_of_halt, stop_of_show};
 
-use dsql_player::Halt;
+use dsql_hall::Halt;
 use dsql_script_show::ShowFault;
 use dsql_script_source::Stop;
 

@@ -26,6 +26,7 @@ fn main(rt: HostRuntime) -> ExitCode {
     let mut fleet = FixedFleet::new(rt.alloc());
     let mut clock = StdClock::new(&rt);
     let status = sqlrun(
+        &rt,
         rt.alloc(),
         &words,
         &mut input,

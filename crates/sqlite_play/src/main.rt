@@ -54,6 +54,7 @@ fn main(rt: HostRuntime) -> ExitCode {
     let mut output = StdSink::new(rt.stdout());
     let mut clock = StdClock::new(&rt);
     let status = sqlrun(
+        &rt,
         rt.alloc(),
         &words,
         &mut input,

@@ -1,5 +1,5 @@
-//! The program. Plays a script of clients' calls from standard input on the database layer, over a driver in memory.
-//! Writes the run's report or summary to standard output. It also generates scripts.
+//! The program. Plays or races a script of clients' calls from standard input on the database layer, over a driver in
+//! memory. Writes the run's report or summary to standard output. It also generates scripts.
 #![tactic(auto)]
 
 use dsql_driver::OpenGate;
@@ -35,6 +35,7 @@ fn main(rt: HostRuntime) -> ExitCode {
     let mut output = StdSink::new(rt.stdout());
     let mut clock = StdClock::new(&rt);
     let status = sqlrun(
+        &rt,
         rt.alloc(),
         &words,
         &mut input,

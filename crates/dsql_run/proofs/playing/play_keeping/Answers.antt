@@ -1,4 +1,4 @@
-use Rattle.std.proofs.Common.{◌∙◌, ap, inl, inr, refl}
+use Rattle.std.proofs.Common.{◌∙◌, false, ap, inl, inr, refl}
 use Rattle.dsql_laws_apart.proofs.Histories.{all_apart}
 use Rattle.dsql_run_outcome.specs.driver.Streams.{has_risen}
 use Rattle.dsql_run_outcome.specs.history.declared.event.Event.TheVariants.{Run}
@@ -45,7 +45,7 @@ returns g c =
     (record { silent = head.silent; counted = head.counted; reads = head.reads })
     (λ failed. risen_later (g.S.Source.faults c.args.input.now) (g.S.Source.faults c.read_head-first.new.input) now c.play_from-stopped.ensures.reads.counted (c.read_head-first.ensures.faults.caused (ap is_read_fault failed)))
     (λ risen. risen_earlier (g.S.Source.faults c.args.input.now) (g.S.Source.faults c.read_head-first.new.input) now c.read_head-first.ensures.faults.counted risen)) in
-    let ran : Ran c.play_from-stopped.result
+    let ran : Ran false c.play_from-stopped.result
     (seen g.S.Source g.K.Sink g.F.Fleet c.args.input.now c.args.output.now c.args.fleet.now)
     (seen g.S.Source g.K.Sink g.F.Fleet c.play_from-stopped.new.input c.play_from-stopped.new.output c.play_from-stopped.new.fleet) =
     record {

@@ -1,4 +1,4 @@
-use Rattle.std.proofs.Common.{◌≡◌, ◌≤◌, ◌+◌, ℕ, ◌∙◌, true, List, refl, ap, sym, subst, arith, length}
+use Rattle.std.proofs.Common.{false, ◌≡◌, ◌≤◌, ◌+◌, ℕ, ◌∙◌, true, List, refl, ap, sym, subst, arith, length}
 use Rattle.std.specs.Prelude.{IfSome, Ok, Err, is_some}
 use Rattle.std.proofs.lemmas.Result.{IfOk-at_ok}
 use Rattle.dsql_run_outcome.specs.history.declared.event.Event.{Event}
@@ -139,7 +139,7 @@ returns-in_err-next-2-clause-lines g c = λ before asked skipped head.
     (subst (λ line. (m : Moment) → IsAt m c.loop-next.player → Carries m line c.loop-next.player c.play_line.new.player) c.line_as_played.ensures (c.in_ok-play_line.ensures.carries refl))
     (λ made just. (subst (λ line. FleetTells g.F.Wire.Wire.told (plans_of line c.loop-next.player.past) (g.F.Fleet.told c.loop-next.fleet) (g.F.Fleet.told c.play_line.new.fleet) c.loop-next.player.past c.play_line.new.player.past c.loop-next.wires c.play_line.new.wires)
     c.line_as_played.ensures (c.in_ok-play_line.ensures.told refl)).told made (g.F.Fleet.told c.args.fleet.now) just)
-    (λ lines read. c.in_err-next-2.ensures.reads before (saying asked lines) read) (λ lines read. c.in_err-next-2.ensures.counted before (saying asked lines) read))
+    (λ lines read. c.in_err-next-2.ensures.reads false before (saying asked lines) read) (λ lines read. c.in_err-next-2.ensures.counted false before (saying asked lines) read))
     (c.in_ok-play_line.ensures.between refl).wires)
 
 pub returns-in_err-next-2-clause-writes : goal.returns-in_err-next-2-clause-writes
@@ -211,7 +211,7 @@ loop-next-preserved g c =
           (subst (λ line. (m : Moment) → IsAt m c.loop-next.player → Carries m line c.loop-next.player c.play_line.new.player) c.line_as_played.ensures (c.in_ok-play_line.ensures.carries refl))
           (λ made just. (subst (λ line. FleetTells g.F.Wire.Wire.told (plans_of line c.loop-next.player.past) (g.F.Fleet.told c.loop-next.fleet) (g.F.Fleet.told c.play_line.new.fleet) c.loop-next.player.past c.play_line.new.player.past c.loop-next.wires c.play_line.new.wires)
           c.line_as_played.ensures (c.in_ok-play_line.ensures.told refl)).told made (g.F.Fleet.told c.args.fleet.now) just)
-          (λ lines read. c.in_ok-next-2.ensures.reads before (saying asked lines) read) (λ lines read. c.in_ok-next-2.ensures.counted before (saying asked lines) read));
+          (λ lines read. c.in_ok-next-2.ensures.reads false before (saying asked lines) read) (λ lines read. c.in_ok-next-2.ensures.counted false before (saying asked lines) read));
       body = c.in_ok-next-2.ensures.body begun;
       headed = always_headed c.in_ok-next-2.next c.next.new.self.reader (c.in_ok-next-2.ensures.begun begun);
       few = c.in_ok-next-2.ensures.few;
