@@ -8,6 +8,8 @@ mod examples;
 #[cfg(test)]
 mod outcome;
 #[cfg(test)]
+mod races;
+#[cfg(test)]
 mod replayed;
 #[cfg(test)]
 mod runs;

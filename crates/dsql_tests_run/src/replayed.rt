@@ -5,10 +5,12 @@ mod open_rows;
 mod prepared_rows;
 mod single_rows;
 
-use crate::outcome::play_as_told;
+use crate::outcome::run_as_told;
 use dsql_value::Memory;
 use std::alloc::Global;
+use std::sync::Wait;
 use std::test::Fail;
+use std::thread::Threads;
 
 /// A script, what its reports begin with, and how each of them goes on.
 type Case = (&'static str, &'static str, &'static [&'static str]);
@@ -34,8 +36,12 @@ fn all_reports(alloc: Global) -> Result<Vec<(&'static str, String)>, Memory> {
 }
 
 /// Is true if a script gives this report.
-fn gives(alloc: Global, script: &str, report: &str) -> Result<bool, Memory> {
-    Ok(play_as_told(alloc, script, report)?.is(0, "", report))
+fn gives<R: AllocGlobal + Threads + Wait + Sync>(
+    rt: &R,
+    script: &str,
+    report: &str,
+) -> Result<bool, Memory> {
+    Ok(run_as_told(rt, "play", script, report)?.is(0, "", report))
 }
 
 #[test]
@@ -43,18 +49,23 @@ fn scripts_give_the_reports_that_their_driver_tells(rt: HostRuntime) -> Result<(
     let reports = all_reports(rt.alloc())?;
     for (script, report) in &reports {
         let report = report.as_str();
-        assert!(rt; gives(rt.alloc(), script, report)?, "{report}");
+        assert!(rt; gives(&rt, script, report)?, "{report}");
     }
     Ok(())
 }
 
-/// Is true if a driver that lacks memory at any one answer stops the run there.
-fn stops_at_each_answer(alloc: Global, script: &str, report: &str) -> Result<bool, Memory> {
+/// Is true if a driver that lacks memory at any one answer stops the run of a script there. The word says which run.
+pub(super) fn stops_at_each_answer<R: AllocGlobal + Threads + Wait + Sync>(
+    rt: &R,
+    word: &str,
+    script: &str,
+    report: &str,
+) -> Result<bool, Memory> {
     let mut before = 0usize;
     for line in report.lines() {
         if line.starts_with("[\"heard\"") {
             let told = report.get(..before).unwrap_or(report);
-            if !play_as_told(alloc, script, told)?.lacked_memory(report) {
+            if !run_as_told(rt, word, script, told)?.lacked_memory(report) {
                 return Ok(false);
             }
         }
@@ -69,7 +80,7 @@ fn a_driver_without_memory_stops_the_run(rt: HostRuntime) -> Result<(), Fail> {
     for (script, report) in &reports {
         let report = report.as_str();
         assert!(rt;
-            stops_at_each_answer(rt.alloc(), script, report)?,
+            stops_at_each_answer(&rt, "play", script, report)?,
             "{report}"
         );
     }

@@ -5,24 +5,26 @@ use crate::driver::ToldFleet;
 use crate::outcome::run_over;
 use dsql_driver::{SliceSource, VecSink};
 use std::alloc::Global;
+use std::sync::Wait;
 use std::test::Fail;
+use std::thread::Threads;
 
-const ONE: &str = "c1 exec db [\"SET a 1\"]\n";
+pub(super) const ONE: &str = "c1 exec db [\"SET a 1\"]\n";
 
 /// One call, and a line that is cut off.
 const CUT: &str = "c1 exec db [\"SET a 1\"]\nc1 exec db [\"SET a";
 
-const TWO: &str = "c1 exec db [\"SET a 1\"]\nc1 exec db [\"SET a 2\"]\n";
+pub(super) const TWO: &str = "c1 exec db [\"SET a 1\"]\nc1 exec db [\"SET a 2\"]\n";
 
 /// Two calls, the second without its line feed.
 const UNFINISHED: &str = "c1 exec db [\"SET a 1\"]\nc1 exec db [\"SET a 2\"]";
 
-const REPORT_OF_NONE: &str =
+pub(super) const REPORT_OF_NONE: &str =
     r#"["run",1,["fast_exec","fast_query","begin_options","pinger","resetter","validator"]]
 ["ended"]
 "#;
 
-const REPORT_OF_ONE: &str =
+pub(super) const REPORT_OF_ONE: &str =
     r#"["run",1,["fast_exec","fast_query","begin_options","pinger","resetter","validator"]]
 ["enter",1,1,"exec db",["SET a 1"]]
 ["open",1,1]
@@ -64,16 +66,16 @@ pub(super) const REPORT_OF_TWO: &str =
 /// A script, how many bytes its streams take at once, and the turns at which they fail. 0 means that they don't
 /// fail.
 #[derive(Clone, Copy, Drop)]
-struct Streams<'a> {
-    script: &'a [u8],
-    piece: usize,
-    read: u64,
-    write: u64,
-    note: u64,
+pub(super) struct Streams<'a> {
+    pub script: &'a [u8],
+    pub piece: usize,
+    pub read: u64,
+    pub write: u64,
+    pub note: u64,
 }
 
 /// Returns streams of a script that don't fail.
-fn unfailing(script: &[u8], piece: usize) -> Streams<'_> {
+pub(super) fn unfailing(script: &[u8], piece: usize) -> Streams<'_> {
     Streams {
         script,
         piece,
@@ -84,7 +86,7 @@ fn unfailing(script: &[u8], piece: usize) -> Streams<'_> {
 }
 
 /// How a run ends: its status, its note and its report.
-type End<'a> = (u8, &'a str, &'a str);
+pub(super) type End<'a> = (u8, &'a str, &'a str);
 
 /// Returns an empty sink that fails at this write.
 fn sink(alloc: Global, piece: usize, turn: u64) -> Result<VecSink, Fail>
@@ -95,34 +97,43 @@ fn sink(alloc: Global, piece: usize, turn: u64) -> Result<VecSink, Fail>
 }
 
 /// Is true if a run over these streams ends like this.
-fn ends(alloc: Global, words: &[&str], streams: Streams<'_>, end: End<'_>) -> Result<bool, Fail> {
+pub(super) fn ends<R: AllocGlobal + Threads + Wait + Sync>(
+    rt: &R,
+    words: &[&str],
+    streams: Streams<'_>,
+    end: End<'_>,
+) -> Result<bool, Fail> {
     let piece = streams.piece.max(1);
     let failing = [streams.read];
     let mut input = SliceSource::new(streams.script, piece, &failing);
-    let report = sink(alloc, piece, streams.write)?;
-    let notes = sink(alloc, piece, streams.note)?;
-    let mut fleet = ToldFleet::new(alloc, REPORT_OF_TWO);
-    let ran = run_over(alloc, words, &mut input, report, notes, &mut fleet)?;
+    let report = sink(rt.alloc(), piece, streams.write)?;
+    let notes = sink(rt.alloc(), piece, streams.note)?;
+    let mut fleet = ToldFleet::new(rt.alloc(), REPORT_OF_TWO);
+    let ran = run_over(rt, words, &mut input, report, notes, &mut fleet)?;
     let (status, note, report) = end;
     Ok(ran.is(status, note, report))
 }
 
 /// Is true if a script that is played over these streams ends like this.
-fn plays(alloc: Global, streams: Streams<'_>, end: End<'_>) -> Result<bool, Fail> {
-    ends(alloc, &["play"], streams, end)
+fn plays<R: AllocGlobal + Threads + Wait + Sync>(
+    rt: &R,
+    streams: Streams<'_>,
+    end: End<'_>,
+) -> Result<bool, Fail> {
+    ends(rt, &["play"], streams, end)
 }
 
 /// Is true if these words get the usage.
-fn get_usage(alloc: Global, words: &[&str]) -> Result<bool, Fail> {
+fn get_usage<R: AllocGlobal + Threads + Wait + Sync>(rt: &R, words: &[&str]) -> Result<bool, Fail> {
     let usage = "sqlrun: usage: sqlrun play [--summary] | race | gen N\n";
-    ends(alloc, words, unfailing(b"", 4096), (2, usage, ""))
+    ends(rt, words, unfailing(b"", 4096), (2, usage, ""))
 }
 
 #[test]
 fn other_words_get_the_usage(rt: HostRuntime) -> Result<(), Fail> {
-    assert!(rt; get_usage(rt.alloc(), &["play", "--"])?);
-    assert!(rt; get_usage(rt.alloc(), &["gen", "0"])?);
-    assert!(rt; get_usage(rt.alloc(), &[])?);
+    assert!(rt; get_usage(&rt, &["play", "--"])?);
+    assert!(rt; get_usage(&rt, &["gen", "0"])?);
+    assert!(rt; get_usage(&rt, &[])?);
     Ok(())
 }
 
@@ -132,7 +143,7 @@ fn a_usage_that_fails_makes_the_status_4(rt: HostRuntime) -> Result<(), Fail> {
         note: 1,
         ..unfailing(b"", 4096)
     };
-    assert!(rt; ends(rt.alloc(), &[], failing, (4, "", ""))?);
+    assert!(rt; ends(&rt, &[], failing, (4, "", ""))?);
     Ok(())
 }
 
@@ -178,16 +189,20 @@ const HOSTILE: &[(&str, &[(u8, usize)], &str)] = &[
 ];
 
 /// Is true if a line of such a script is refused with this note, or none is refused if the note is empty.
-fn is_refused(alloc: Global, script: &[u8], note: &str) -> Result<bool, Fail> {
+fn is_refused<R: AllocGlobal + Threads + Wait + Sync>(
+    rt: &R,
+    script: &[u8],
+    note: &str,
+) -> Result<bool, Fail> {
     let end = (if note.is_empty() { 0 } else { 7 }, note, REPORT_OF_NONE);
-    Ok(plays(alloc, unfailing(script, 1), end)? && plays(alloc, unfailing(script, 4096), end)?)
+    Ok(plays(rt, unfailing(script, 1), end)? && plays(rt, unfailing(script, 4096), end)?)
 }
 
 #[test]
 fn hostile_lines_are_refused_by_their_first_fault(rt: HostRuntime) -> Result<(), Fail> {
     for (head, runs, note) in HOSTILE {
         let script = filled(rt.alloc(), head, runs)?;
-        assert!(rt; is_refused(rt.alloc(), &script, note)?, "{head} {runs:?}");
+        assert!(rt; is_refused(&rt, &script, note)?, "{head} {runs:?}");
     }
     Ok(())
 }
@@ -210,8 +225,8 @@ fn end_of_read(taken: usize, piece: usize, len: usize, second: usize) -> End<'st
 
 /// Is true if a run of two calls ends after whole lines when its kth read fails, provided that there is such a
 /// read.
-fn ends_behind_whole_lines(
-    alloc: Global,
+fn ends_behind_whole_lines<R: AllocGlobal + Threads + Wait + Sync>(
+    rt: &R,
     script: &str,
     second: usize,
     piece: usize,
@@ -222,11 +237,7 @@ fn ends_behind_whole_lines(
         read: k,
         ..unfailing(script.as_bytes(), piece)
     };
-    plays(
-        alloc,
-        failing,
-        end_of_read(taken, piece, script.len(), second),
-    )
+    plays(rt, failing, end_of_read(taken, piece, script.len(), second))
 }
 
 #[test]
@@ -235,7 +246,7 @@ fn a_read_that_fails_ends_the_run_behind_whole_lines(rt: HostRuntime) -> Result<
         for piece in [1, 7, 4096] {
             for k in 1..=50 {
                 assert!(rt;
-                    ends_behind_whole_lines(rt.alloc(), script, second, piece, k)?,
+                    ends_behind_whole_lines(&rt, script, second, piece, k)?,
                     "read {k} by {piece}"
                 );
             }
@@ -245,7 +256,7 @@ fn a_read_that_fails_ends_the_run_behind_whole_lines(rt: HostRuntime) -> Result<
 }
 
 /// Returns the first `count` bytes of a text.
-fn front(text: &str, count: usize) -> &str {
+pub(super) fn front(text: &str, count: usize) -> &str {
     text.get(..count).unwrap_or(text)
 }
 
@@ -257,7 +268,7 @@ const ENDS: &[(&str, u64, &str)] = &[
 ];
 
 /// Returns streams of a script that take one byte at once, with a source that fails at this read.
-fn bytewise(script: &str, read: u64) -> Streams<'_> {
+pub(super) fn bytewise(script: &str, read: u64) -> Streams<'_> {
     Streams {
         read,
         ..unfailing(script.as_bytes(), 1)
@@ -265,8 +276,8 @@ fn bytewise(script: &str, read: u64) -> Streams<'_> {
 }
 
 /// Is true if a write that fails after so many bytes leaves exactly these bytes.
-fn leaves_a_beginning(
-    alloc: Global,
+fn leaves_a_beginning<R: AllocGlobal + Threads + Wait + Sync>(
+    rt: &R,
     script: &str,
     read: u64,
     written: usize,
@@ -276,7 +287,7 @@ fn leaves_a_beginning(
         ..bytewise(script, read)
     };
     let end = (4, "sqlrun: write fault\n", front(REPORT_OF_ONE, written));
-    plays(alloc, failing, end)
+    plays(rt, failing, end)
 }
 
 #[test]
@@ -284,7 +295,7 @@ fn a_write_that_fails_leaves_a_beginning(rt: HostRuntime) -> Result<(), Fail> {
     for (script, read, _) in ENDS {
         for written in 0..REPORT_OF_ONE.len() {
             assert!(rt;
-                leaves_a_beginning(rt.alloc(), script, *read, written)?,
+                leaves_a_beginning(&rt, script, *read, written)?,
                 "{script} behind {written}"
             );
         }
@@ -293,27 +304,31 @@ fn a_write_that_fails_leaves_a_beginning(rt: HostRuntime) -> Result<(), Fail> {
 }
 
 /// Is true if the events from this one on are written by the write of this number.
-fn is_in_write(alloc: Global, event: &str, write: u64) -> Result<bool, Fail> {
+fn is_in_write<R: AllocGlobal + Threads + Wait + Sync>(
+    rt: &R,
+    event: &str,
+    write: u64,
+) -> Result<bool, Fail> {
     let written = REPORT_OF_ONE.find(event).ok_or("no such event")?;
     let failing = Streams {
         write,
         ..unfailing(ONE.as_bytes(), 4096)
     };
     let end = (4, "sqlrun: write fault\n", front(REPORT_OF_ONE, written));
-    plays(alloc, failing, end)
+    plays(rt, failing, end)
 }
 
 #[test]
 fn events_of_a_line_are_written_in_one_piece(rt: HostRuntime) -> Result<(), Fail> {
     for (write, event) in [(1, "[\"run\""), (2, "[\"enter\""), (3, "[\"ended\"")] {
-        assert!(rt; is_in_write(rt.alloc(), event, write)?, "write {write}");
+        assert!(rt; is_in_write(&rt, event, write)?, "write {write}");
     }
     Ok(())
 }
 
 /// Is true if a write of the note that fails after so many bytes leaves exactly these bytes.
-fn leaves_its_note(
-    alloc: Global,
+fn leaves_its_note<R: AllocGlobal + Threads + Wait + Sync>(
+    rt: &R,
     streams: Streams<'_>,
     note: &str,
     written: usize,
@@ -322,7 +337,7 @@ fn leaves_its_note(
         note: (written as u64).saturating_add(1),
         ..streams
     };
-    plays(alloc, failing, (4, front(note, written), REPORT_OF_ONE))
+    plays(rt, failing, (4, front(note, written), REPORT_OF_ONE))
 }
 
 #[test]
@@ -331,7 +346,7 @@ fn a_note_that_fails_makes_the_status_4(rt: HostRuntime) -> Result<(), Fail> {
         for written in 0..note.len() {
             let streams = bytewise(script, *read);
             assert!(rt;
-                leaves_its_note(rt.alloc(), streams, note, written)?,
+                leaves_its_note(&rt, streams, note, written)?,
                 "{note} behind {written}"
             );
         }
@@ -346,7 +361,7 @@ fn a_summary_that_fails_leaves_a_beginning(rt: HostRuntime) -> Result<(), Fail> 
         ..bytewise(ONE, 0)
     };
     let cut = (4, "sqlrun: write fault\n", "[\"summar");
-    assert!(rt; ends(rt.alloc(), &["play", "--summary"], failing, cut)?);
+    assert!(rt; ends(&rt, &["play", "--summary"], failing, cut)?);
     Ok(())
 }
 
@@ -357,6 +372,6 @@ fn a_generated_script_that_fails_leaves_a_beginning(rt: HostRuntime) -> Result<(
         ..bytewise(ONE, 1)
     };
     let cut = (4, "sqlrun: write fault\n", "c1 b");
-    assert!(rt; ends(rt.alloc(), &["gen", "2"], failing, cut)?);
+    assert!(rt; ends(&rt, &["gen", "2"], failing, cut)?);
     Ok(())
 }
