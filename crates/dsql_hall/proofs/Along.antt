@@ -2,18 +2,18 @@
 -- appends to the fleet's record what the history has of it.
 use Rattle.std.proofs.Common.{◌≡◌, ◌≢◌, ℕ, Bool, true, false, List, [], ◌∷◌, Option, Some, None, refl, sym, ◌∙◌, ap, subst}
 use Rattle.std.specs.Prelude.{Result, option_map, is_some, IfSome, OnOk}
-use Rattle.dsql_engine_laws.specs.driver.Wires.{FleetTold, WireTold, connected_after, retired_after, with_connects, with_wanted_connect}
-use Rattle.dsql_engine_laws.specs.driver.declared.answer.DriverAnswer.{DriverAnswer}
-use Rattle.dsql_engine_laws.specs.driver.declared.answer.DriverAnswer.TheVariants.{Memory}
-use Rattle.dsql_engine_laws.specs.driver.declared.wire.Fleet.{Ghosts}
-use Rattle.dsql_engine_laws.specs.history.declared.event.Event.{Event}
-use Rattle.dsql_engine_laws.specs.journal.declared.entry.Entry.{Entry}
-use Rattle.dsql_engine_laws.specs.wire.Journaled.{Journaled}
-use Rattle.dsql_engine_laws.specs.wire.Told.{TellsOf}
-use Rattle.dsql_player.proofs.Ended.{on_ok2}
-use Rattle.dsql_player_wires.specs.Made.{Made}
-use Rattle.dsql_player_wires.specs.Told.{SameAbility, fleet_told, told_then}
-use Rattle.dsql_hall_bonds.specs.Work.{Work}
+use Rattle.dsql_hall_steps.specs.driver.Wires.{FleetTold, WireTold, connected_after, retired_after, with_connects, with_wanted_connect}
+use Rattle.dsql_hall_steps.specs.driver.declared.answer.DriverAnswer.{DriverAnswer}
+use Rattle.dsql_hall_steps.specs.driver.declared.answer.DriverAnswer.TheVariants.{Memory}
+use Rattle.dsql_hall_steps.specs.driver.declared.wire.Fleet.{Ghosts}
+use Rattle.dsql_hall_steps.specs.history.declared.event.Event.{Event}
+use Rattle.dsql_hall_steps.specs.journal.declared.entry.Entry.{Entry}
+use Rattle.dsql_hall_steps.specs.wire.Journaled.{Journaled}
+use Rattle.dsql_hall_steps.specs.wire.Told.{TellsOf}
+use Rattle.dsql_hall_steps.proofs.player.Ended.{on_ok2}
+use Rattle.dsql_hall_steps.specs.player_wires.Made.{Made}
+use Rattle.dsql_hall_steps.specs.player_wires.Told.{SameAbility, fleet_told, told_then}
+use Rattle.dsql_hall_steps.specs.hall_bonds.Work.{Work}
 use Rattle.dsql_hall_steps.specs.House.{IsOwn, TellsConnect, TellsShut}
 use Rattle.dsql_hall.specs.Fleets.{GoesAlong, KeepsHouse, RecordsOn}
 

@@ -2,18 +2,18 @@
 -- of the run adds to it.
 use Rattle.std.proofs.Common.{◌≡◌, ◌≤◌, ℕ, true, false, List, [], ◌++◌, Option, Some, None, Result, Ok, Err, refl, ap, sym, subst, ◌∙◌, length}
 use Rattle.std.specs.Prelude.{OnOk, unwrap_or}
-use Rattle.dsql_engine_laws.specs.history.declared.event.Control.{Control}
-use Rattle.dsql_engine_laws.specs.history.declared.event.Event.{Event}
-use Rattle.dsql_engine_laws.specs.history.Legal.{Legal}
-use Rattle.dsql_engine_laws.specs.history.Readers.Course.{has_ended}
-use Rattle.dsql_engine_laws.specs.history.Rules.House.{is_quiet}
-use Rattle.dsql_engine_laws.specs.follows.declared.line.Line.{Line}
-use Rattle.dsql_engine_laws.specs.laws_ends.Over.{IsOver}
-use Rattle.dsql_engine_laws.specs.laws_steps.Groups.{most_events}
-use Rattle.dsql_player.specs.declared.halt.Halt.{Halt}
-use Rattle.dsql_player.specs.declared.halt.Halt.TheVariants.{Full, Memory}
-use Rattle.dsql_player.specs.Playing.{Playing}
-use Rattle.dsql_player.proofs.Ended.{on_ok2}
+use Rattle.dsql_hall_steps.specs.history.declared.event.Control.{Control}
+use Rattle.dsql_hall_steps.specs.history.declared.event.Event.{Event}
+use Rattle.dsql_hall_steps.specs.history.Legal.{Legal}
+use Rattle.dsql_hall_steps.specs.history.Readers.Course.{has_ended}
+use Rattle.dsql_hall_steps.specs.history.Rules.House.{is_quiet}
+use Rattle.dsql_hall_steps.specs.follows.declared.line.Line.{Line}
+use Rattle.dsql_hall_steps.specs.laws_ends.Over.{IsOver}
+use Rattle.dsql_hall_steps.specs.laws_steps.Groups.{most_events}
+use Rattle.dsql_hall_steps.specs.player.declared.halt.Halt.{Halt}
+use Rattle.dsql_hall_steps.specs.player.declared.halt.Halt.TheVariants.{Full, Memory}
+use Rattle.dsql_hall_steps.specs.player.Playing.{Playing}
+use Rattle.dsql_hall_steps.proofs.player.Ended.{on_ok2}
 use Rattle.dsql_hall_steps.specs.Halls.{Keeps, Terms}
 use Rattle.dsql_hall_steps.specs.Limits.{set_in}
 use Rattle.dsql_hall_steps.specs.Racing.{Races, RacesAll}

@@ -1,17 +1,17 @@
 -- The run of a race ends last. The argument is that its end comes in its turn, and that nobody may go on then.
 use Rattle.std.proofs.Common.{◌≡◌, ℕ, ◌==◌, Bool, true, false, not, ◌&&◌, ◌||◌, cond, List, [], ◌∷◌, ◌++◌, length, filter, is_none, reverse, refl, ap, sym, ◌∙◌}
 use Rattle.std.specs.List.{list_all}
-use Rattle.dsql_engine_laws.specs.journal.Readers.{is_empty}
-use Rattle.dsql_engine_laws.specs.history.declared.event.Event.{Event}
-use Rattle.dsql_engine_laws.specs.history.declared.event.Event.TheVariants.{Ended}
-use Rattle.dsql_engine_laws.specs.history.Readers.Clients.{call_of, is_free}
-use Rattle.dsql_engine_laws.specs.history.Readers.Course.{has_ended}
-use Rattle.dsql_engine_laws.proofs.laws.Tests.{both, same_itself, together}
-use Rattle.dsql_engine_laws.specs.follows.declared.line.Line.{Line}
-use Rattle.dsql_engine_laws.specs.follows.Moments.{Moment, at_end, begins_step, is_held, kept, rested, walk}
-use Rattle.dsql_engine_laws.specs.follows.Sentences.{come_in_turn, passed}
-use Rattle.dsql_engine_laws.specs.follows.Turns.{can_move, clients, comes_in_turn, first_chore, has_run_out, least, may_go, next_client}
-use Rattle.dsql_player.specs.Carried.{CarriesEnd}
+use Rattle.dsql_hall_steps.specs.journal.Readers.{is_empty}
+use Rattle.dsql_hall_steps.specs.history.declared.event.Event.{Event}
+use Rattle.dsql_hall_steps.specs.history.declared.event.Event.TheVariants.{Ended}
+use Rattle.dsql_hall_steps.specs.history.Readers.Clients.{call_of, is_free}
+use Rattle.dsql_hall_steps.specs.history.Readers.Course.{has_ended}
+use Rattle.dsql_hall_steps.proofs.engine_laws.laws.Tests.{both, same_itself, together}
+use Rattle.dsql_hall_steps.specs.follows.declared.line.Line.{Line}
+use Rattle.dsql_hall_steps.specs.follows.Moments.{Moment, at_end, begins_step, is_held, kept, rested, walk}
+use Rattle.dsql_hall_steps.specs.follows.Sentences.{come_in_turn, passed}
+use Rattle.dsql_hall_steps.specs.follows.Turns.{can_move, clients, comes_in_turn, first_chore, has_run_out, least, may_go, next_client}
+use Rattle.dsql_hall_steps.specs.player.Carried.{CarriesEnd}
 use Rattle.dsql_hall_steps.specs.Limits.{set_in}
 use Rattle.dsql_hall_steps.proofs.Ordered.{lines_after, past_after}
 use Rattle.dsql_hall.specs.Raced.{ends_last, is_busy_or_done, settings_of}

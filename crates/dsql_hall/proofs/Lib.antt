@@ -1,5 +1,5 @@
-pub use Rattle.dsql_player_wires.proofs as player_wires
-pub use Rattle.dsql_player.proofs as player
+pub use Rattle.dsql_hall_steps.proofs.player_wires as player_wires
+pub use Rattle.dsql_hall_steps.proofs.player as player
 pub use Rattle.dsql_hall_steps.proofs as hall_steps
 pub mod Setting
 pub mod Plans

@@ -5,19 +5,19 @@ use Rattle.std.specs.Prelude.{filter_map, map, option_map, reverse}
 use Rattle.std.specs.List.{cons_option}
 use Rattle.std.proofs.lemmas.List.{map-append, reverse-append}
 use Rattle.std.proofs.lemmas.List.Elements.{filter_map-append}
-use Rattle.dsql_engine_laws.specs.driver.declared.caps.Caps.{Caps}
-use Rattle.dsql_engine_laws.specs.driver.declared.wire.Planned.{Planned}
-use Rattle.dsql_engine_laws.specs.driver.Wires.{FleetTold, WirePlan, WireTold, plans_after}
-use Rattle.dsql_engine_laws.specs.history.declared.event.Event.{Event}
-use Rattle.dsql_engine_laws.specs.history.declared.event.Event.TheVariants.{Run}
-use Rattle.dsql_engine_laws.specs.follows.declared.line.Line.{Line}
-use Rattle.dsql_engine_laws.specs.follows.declared.line.Line.TheVariants as lines
-use Rattle.dsql_engine_laws.specs.wire.Journaled.{Journaled}
-use Rattle.dsql_player_wires.specs.Asked.{Plans}
-use Rattle.dsql_player_wires.specs.Made.{Made, PlannedAhead, aside_on, no_aside}
-use Rattle.dsql_player_wires.specs.Told.{FleetTells, fleet_told, told_then, with_told}
-use Rattle.dsql_player_wires.specs.WiresFit.{PlansFit}
-use Rattle.dsql_player_wires.proofs.Planned.{plan_tells}
+use Rattle.dsql_hall_steps.specs.driver.declared.caps.Caps.{Caps}
+use Rattle.dsql_hall_steps.specs.driver.declared.wire.Planned.{Planned}
+use Rattle.dsql_hall_steps.specs.driver.Wires.{FleetTold, WirePlan, WireTold, plans_after}
+use Rattle.dsql_hall_steps.specs.history.declared.event.Event.{Event}
+use Rattle.dsql_hall_steps.specs.history.declared.event.Event.TheVariants.{Run}
+use Rattle.dsql_hall_steps.specs.follows.declared.line.Line.{Line}
+use Rattle.dsql_hall_steps.specs.follows.declared.line.Line.TheVariants as lines
+use Rattle.dsql_hall_steps.specs.wire.Journaled.{Journaled}
+use Rattle.dsql_hall_steps.specs.player_wires.Asked.{Plans}
+use Rattle.dsql_hall_steps.specs.player_wires.Made.{Made, PlannedAhead, aside_on, no_aside}
+use Rattle.dsql_hall_steps.specs.player_wires.Told.{FleetTells, fleet_told, told_then, with_told}
+use Rattle.dsql_hall_steps.specs.player_wires.WiresFit.{PlansFit}
+use Rattle.dsql_hall_steps.proofs.player_wires.Planned.{plan_tells}
 use Rattle.dsql_hall.specs.Raced.{plan_of, plans_first}
 
 none_planned : (plans : List WirePlan) (c : ℕ) → aside_on (map (λ plan. PlannedAhead (0, plan)) plans) c ≡ no_aside

@@ -5,25 +5,25 @@ use Rattle.std.specs.List.{cons_option, list_all}
 use Rattle.std.specs.Prelude.{Result, Ok, Err, OnOk, OnErr}
 use Rattle.std.proofs.lemmas.List.{append-nil}
 use Rattle.std.proofs.lemmas.List.Folds.{list_all-append}
-use Rattle.dsql_engine_laws.specs.history.declared.event.Control.{Control}
-use Rattle.dsql_engine_laws.specs.history.declared.event.Control.TheVariants.{Set, Tick}
-use Rattle.dsql_engine_laws.specs.history.declared.event.Event.{Event}
-use Rattle.dsql_engine_laws.specs.history.declared.event.Event.TheVariants.{SetLimit}
-use Rattle.dsql_engine_laws.specs.history.Legal.{Legal}
-use Rattle.dsql_engine_laws.specs.history.Readers.Controls.{told_after}
-use Rattle.dsql_engine_laws.specs.history.Readers.Course.{has_ended}
-use Rattle.dsql_engine_laws.proofs.laws.Tests.{both}
-use Rattle.dsql_engine_laws.specs.follows.declared.line.Line.{Line}
-use Rattle.dsql_engine_laws.specs.follows.declared.line.Line.TheVariants as lines
-use Rattle.dsql_engine_laws.specs.follows.Moments.{Moment, at_end, begins_step, rested, walk}
-use Rattle.dsql_engine_laws.specs.follows.Sentences.{come_in_turn, passed}
-use Rattle.dsql_engine_laws.specs.follows.Turns.{comes_in_turn}
-use Rattle.dsql_engine_laws.specs.laws_steps.Groups.{IsGroup, is_later_of}
-use Rattle.dsql_engine_laws.proofs.laws_steps.Later.{step_is_group}
-use Rattle.dsql_player.specs.declared.halt.Halt.{Halt}
-use Rattle.dsql_player.specs.Carried.{CarriesEnd, HearsNothing, StopsInEnd}
-use Rattle.dsql_player.specs.Playing.{IsAt, IsReady, Playing}
-use Rattle.dsql_player.specs.Stepping.{IsTold, TakesStep}
+use Rattle.dsql_hall_steps.specs.history.declared.event.Control.{Control}
+use Rattle.dsql_hall_steps.specs.history.declared.event.Control.TheVariants.{Set, Tick}
+use Rattle.dsql_hall_steps.specs.history.declared.event.Event.{Event}
+use Rattle.dsql_hall_steps.specs.history.declared.event.Event.TheVariants.{SetLimit}
+use Rattle.dsql_hall_steps.specs.history.Legal.{Legal}
+use Rattle.dsql_hall_steps.specs.history.Readers.Controls.{told_after}
+use Rattle.dsql_hall_steps.specs.history.Readers.Course.{has_ended}
+use Rattle.dsql_hall_steps.proofs.engine_laws.laws.Tests.{both}
+use Rattle.dsql_hall_steps.specs.follows.declared.line.Line.{Line}
+use Rattle.dsql_hall_steps.specs.follows.declared.line.Line.TheVariants as lines
+use Rattle.dsql_hall_steps.specs.follows.Moments.{Moment, at_end, begins_step, rested, walk}
+use Rattle.dsql_hall_steps.specs.follows.Sentences.{come_in_turn, passed}
+use Rattle.dsql_hall_steps.specs.follows.Turns.{comes_in_turn}
+use Rattle.dsql_hall_steps.specs.laws_steps.Groups.{IsGroup, is_later_of}
+use Rattle.dsql_hall_steps.proofs.engine_laws.laws_steps.Later.{step_is_group}
+use Rattle.dsql_hall_steps.specs.player.declared.halt.Halt.{Halt}
+use Rattle.dsql_hall_steps.specs.player.Carried.{CarriesEnd, HearsNothing, StopsInEnd}
+use Rattle.dsql_hall_steps.specs.player.Playing.{IsAt, IsReady, Playing}
+use Rattle.dsql_hall_steps.specs.player.Stepping.{IsTold, TakesStep}
 use Rattle.dsql_hall_steps.specs.Limits.{set_in, sets_limit}
 use Rattle.dsql_hall_steps.specs.Racing.{Races, resting}
 use Rattle.dsql_hall_steps.proofs.Beginning.{told_races}

@@ -1,15 +1,15 @@
 -- How a race ends.
 use Rattle.std.specs.Prelude.{◌≡◌, ◌≤◌, true, List, length, Result, Err, OnOk}
-use Rattle.dsql_engine_laws.specs.history.declared.event.Event.{Event}
-use Rattle.dsql_engine_laws.specs.history.Legal.{Legal}
-use Rattle.dsql_engine_laws.specs.history.Readers.Course.{has_ended}
-use Rattle.dsql_engine_laws.specs.history.Rules.House.{is_quiet}
-use Rattle.dsql_engine_laws.specs.follows.declared.line.Line.{Line}
-use Rattle.dsql_engine_laws.specs.laws_ends.Over.{IsOver}
-use Rattle.dsql_engine_laws.specs.laws_steps.Groups.{most_events}
-use Rattle.dsql_player.specs.declared.halt.Halt.{Halt}
-use Rattle.dsql_player.specs.declared.halt.Halt.TheVariants.{Full}
-use Rattle.dsql_player.specs.Playing.{Playing}
+use Rattle.dsql_hall_steps.specs.history.declared.event.Event.{Event}
+use Rattle.dsql_hall_steps.specs.history.Legal.{Legal}
+use Rattle.dsql_hall_steps.specs.history.Readers.Course.{has_ended}
+use Rattle.dsql_hall_steps.specs.history.Rules.House.{is_quiet}
+use Rattle.dsql_hall_steps.specs.follows.declared.line.Line.{Line}
+use Rattle.dsql_hall_steps.specs.laws_ends.Over.{IsOver}
+use Rattle.dsql_hall_steps.specs.laws_steps.Groups.{most_events}
+use Rattle.dsql_hall_steps.specs.player.declared.halt.Halt.{Halt}
+use Rattle.dsql_hall_steps.specs.player.declared.halt.Halt.TheVariants.{Full}
+use Rattle.dsql_hall_steps.specs.player.Playing.{Playing}
 use Rattle.dsql_hall.specs.Raced.{RacesInPart, RacesThrough}
 
 -- Holds if a race of these lines, the oldest first, is over. If nothing stopped it, it carried them out and its run has

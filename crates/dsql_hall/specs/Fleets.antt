@@ -1,11 +1,11 @@
 -- What the house knows of its fleet while a race goes on.
 use Rattle.std.specs.Prelude.{◌≡◌, Bool, false, List, Option, is_some}
-use Rattle.dsql_engine_laws.specs.driver.Wires.{FleetTold}
-use Rattle.dsql_engine_laws.specs.driver.declared.wire.Fleet.{Ghosts}
-use Rattle.dsql_engine_laws.specs.history.declared.event.Event.{Event}
-use Rattle.dsql_player_wires.specs.Made.{Made}
-use Rattle.dsql_player_wires.specs.Told.{SameAbility, with_told}
-use Rattle.dsql_hall_bonds.specs.Work.{Work}
+use Rattle.dsql_hall_steps.specs.driver.Wires.{FleetTold}
+use Rattle.dsql_hall_steps.specs.driver.declared.wire.Fleet.{Ghosts}
+use Rattle.dsql_hall_steps.specs.history.declared.event.Event.{Event}
+use Rattle.dsql_hall_steps.specs.player_wires.Made.{Made}
+use Rattle.dsql_hall_steps.specs.player_wires.Told.{SameAbility, with_told}
+use Rattle.dsql_hall_steps.specs.hall_bonds.Work.{Work}
 use Rattle.dsql_hall_steps.specs.House.{IsOwn}
 
 -- Holds if a fleet that recorded exactly the old history and these plans records exactly the new one and these plans.

@@ -1,11 +1,11 @@
-pub use Rattle.dsql_engine_laws.specs.driver as driver
-pub use Rattle.dsql_engine_laws.specs.wire as wire
-pub use Rattle.dsql_engine_laws.specs.history as history
-pub use Rattle.dsql_engine_laws.specs.follows as follows
-pub use Rattle.dsql_engine_laws.specs.laws_steps as laws_steps
-pub use Rattle.dsql_engine_laws.specs.laws_ends as laws_ends
-pub use Rattle.dsql_player_wires.specs as player_wires
-pub use Rattle.dsql_player.specs as player
+pub use Rattle.dsql_hall_steps.specs.driver as driver
+pub use Rattle.dsql_hall_steps.specs.wire as wire
+pub use Rattle.dsql_hall_steps.specs.history as history
+pub use Rattle.dsql_hall_steps.specs.follows as follows
+pub use Rattle.dsql_hall_steps.specs.laws_steps as laws_steps
+pub use Rattle.dsql_hall_steps.specs.laws_ends as laws_ends
+pub use Rattle.dsql_hall_steps.specs.player_wires as player_wires
+pub use Rattle.dsql_hall_steps.specs.player as player
 pub use Rattle.dsql_hall_steps.specs as hall_steps
 pub mod Raced
 pub mod Fleets

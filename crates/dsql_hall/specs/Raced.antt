@@ -1,24 +1,24 @@
 -- What a race does with the lines of its script: which limits it sets, which faults it plans, and which calls enter.
 use Rattle.std.specs.Prelude.{ℕ, ◌≡◌, ◌==◌, Bool, true, not, ◌&&◌, ◌||◌, List, [], ◌∷◌, ◌++◌, length, drop, Option, Some, None, filter_map, map, reverse}
 use Rattle.std.specs.List.{list_all}
-use Rattle.dsql_engine_laws.specs.driver.Wires.{WirePlan}
-use Rattle.dsql_engine_laws.specs.history.declared.event.Control.{Control}
-use Rattle.dsql_engine_laws.specs.history.declared.event.Control.TheVariants.{Set}
-use Rattle.dsql_engine_laws.specs.journal.Readers.{is_empty}
-use Rattle.dsql_engine_laws.specs.history.declared.event.Event.{Event}
-use Rattle.dsql_engine_laws.specs.history.declared.event.Event.TheVariants.{Ended}
-use Rattle.dsql_engine_laws.specs.history.Legal.{Legal}
-use Rattle.dsql_engine_laws.specs.history.Readers.Clients.{is_free, made_by}
-use Rattle.dsql_engine_laws.specs.history.Readers.Course.{has_ended}
-use Rattle.dsql_engine_laws.specs.follows.declared.line.Line.{Line}
-use Rattle.dsql_engine_laws.specs.follows.declared.line.Line.TheVariants as lines
-use Rattle.dsql_engine_laws.specs.follows.Moments.{lines_of}
-use Rattle.dsql_engine_laws.specs.follows.Turns.{clients}
+use Rattle.dsql_hall_steps.specs.driver.Wires.{WirePlan}
+use Rattle.dsql_hall_steps.specs.history.declared.event.Control.{Control}
+use Rattle.dsql_hall_steps.specs.history.declared.event.Control.TheVariants.{Set}
+use Rattle.dsql_hall_steps.specs.journal.Readers.{is_empty}
+use Rattle.dsql_hall_steps.specs.history.declared.event.Event.{Event}
+use Rattle.dsql_hall_steps.specs.history.declared.event.Event.TheVariants.{Ended}
+use Rattle.dsql_hall_steps.specs.history.Legal.{Legal}
+use Rattle.dsql_hall_steps.specs.history.Readers.Clients.{is_free, made_by}
+use Rattle.dsql_hall_steps.specs.history.Readers.Course.{has_ended}
+use Rattle.dsql_hall_steps.specs.follows.declared.line.Line.{Line}
+use Rattle.dsql_hall_steps.specs.follows.declared.line.Line.TheVariants as lines
+use Rattle.dsql_hall_steps.specs.follows.Moments.{lines_of}
+use Rattle.dsql_hall_steps.specs.follows.Turns.{clients}
 use Rattle.dsql_hall_steps.specs.Limits.{set_in}
 use Rattle.dsql_hall_steps.specs.Racing.{Races, RacesAll}
-use Rattle.dsql_player.specs.Carried.{HearsNothing}
-use Rattle.dsql_player.specs.Playing.{Playing}
-use Rattle.dsql_player_wires.specs.Made.{Made, PlannedAhead}
+use Rattle.dsql_hall_steps.specs.player.Carried.{HearsNothing}
+use Rattle.dsql_hall_steps.specs.player.Playing.{Playing}
+use Rattle.dsql_hall_steps.specs.player_wires.Made.{Made, PlannedAhead}
 
 -- Returns the limit that a line sets, if it sets one. No line of a race sets the moment.
 abbrev pub limit_of : Line → Option Control

@@ -1,21 +1,21 @@
 -- Worked races of three lines: entries that are in the order of the lines, and damaged ones. The lines are oldest
 -- first, and the events newest first.
 use Rattle.std.specs.Prelude.{◌≡◌, Bool, true, false, List, [], ◌∷◌, pos}
-use Rattle.dsql_engine_laws.specs.driver.declared.caps.Caps.{Caps}
-use Rattle.dsql_engine_laws.specs.driver.declared.wire.Planned.TheVariants.{Bad, Invalid}
-use Rattle.dsql_engine_laws.specs.history.declared.event.Control.TheVariants.{Set}
-use Rattle.dsql_engine_laws.specs.history.declared.event.Event.{Event}
-use Rattle.dsql_engine_laws.specs.history.declared.event.Event.TheVariants.{Ended, Entered, Replied, Run, SetLimit}
-use Rattle.dsql_engine_laws.specs.history.declared.event.Op.TheVariants.{DbClose, Stats}
-use Rattle.dsql_engine_laws.specs.history.declared.reply.Reply.TheVariants.{Ok}
-use Rattle.dsql_engine_laws.specs.history.declared.event.Setting.TheVariants.{MaxIdle, MaxOpen}
-use Rattle.dsql_engine_laws.specs.follows.declared.line.Line.{Line}
-use Rattle.dsql_engine_laws.specs.follows.declared.line.Line.TheVariants.{Client, Control, Fault, Skip}
-use Rattle.dsql_engine_laws.specs.follows.Sentences.{enters_in_order}
-use Rattle.dsql_engine_laws.specs.follows.Follows.{leaves_nothing}
+use Rattle.dsql_hall_steps.specs.driver.declared.caps.Caps.{Caps}
+use Rattle.dsql_hall_steps.specs.driver.declared.wire.Planned.TheVariants.{Bad, Invalid}
+use Rattle.dsql_hall_steps.specs.history.declared.event.Control.TheVariants.{Set}
+use Rattle.dsql_hall_steps.specs.history.declared.event.Event.{Event}
+use Rattle.dsql_hall_steps.specs.history.declared.event.Event.TheVariants.{Ended, Entered, Replied, Run, SetLimit}
+use Rattle.dsql_hall_steps.specs.history.declared.event.Op.TheVariants.{DbClose, Stats}
+use Rattle.dsql_hall_steps.specs.history.declared.reply.Reply.TheVariants.{Ok}
+use Rattle.dsql_hall_steps.specs.history.declared.event.Setting.TheVariants.{MaxIdle, MaxOpen}
+use Rattle.dsql_hall_steps.specs.follows.declared.line.Line.{Line}
+use Rattle.dsql_hall_steps.specs.follows.declared.line.Line.TheVariants.{Client, Control, Fault, Skip}
+use Rattle.dsql_hall_steps.specs.follows.Sentences.{enters_in_order}
+use Rattle.dsql_hall_steps.specs.follows.Follows.{leaves_nothing}
 use Rattle.dsql_hall_steps.specs.Racing.{raced}
 use Rattle.dsql_hall.specs.Raced.{ends_last, plans_first, settings_of}
-use Rattle.dsql_player_wires.specs.Made.{PlannedAhead}
+use Rattle.dsql_hall_steps.specs.player_wires.Made.{PlannedAhead}
 
 -- Client 1 asks for the counts, and then closes the database. Client 2 asks for the counts.
 abbrev pub three_lines : List Line

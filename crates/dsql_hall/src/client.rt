@@ -3,8 +3,7 @@ ghost use Rattle.std.specs.Prelude.{◌≢◌};
 ghost use Rattle.dsql_hall.specs.Calls.{IsOfClient};
 
 use crate::shared::SharedHall;
-use dsql_engine_laws::Wire;
-use dsql_hall_steps::{Errand, Hall, Race, Step};
+use dsql_hall_steps::{Errand, Hall, Race, Step, Wire};
 use dsql_history::Gate;
 use std::sync::{MutexGuard, Wait};
 

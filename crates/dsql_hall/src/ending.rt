@@ -1,18 +1,18 @@
 //! The end of a race, after its threads have returned.
 ghost use Rattle.std.specs.Prelude.{◌≡◌, ◌≤◌, ◌++◌, ℕ, List, [], None, true, false, is_some, reverse, length, Err, OnOk};
 ghost use Rattle.std.specs.List.{list_all};
-ghost use Rattle.dsql_engine_laws.specs.history.declared.event.Event.{Event};
-ghost use Rattle.dsql_engine_laws.specs.history.Legal.{Legal};
-ghost use Rattle.dsql_engine_laws.specs.history.Readers.Course.{has_ended};
-ghost use Rattle.dsql_engine_laws.specs.history.Rules.House.{is_quiet};
-ghost use Rattle.dsql_engine_laws.specs.laws_ends.Over.{IsOver};
-ghost use Rattle.dsql_engine_laws.specs.laws_steps.Groups.{most_events};
+ghost use Rattle.dsql_hall_steps.specs.history.declared.event.Event.{Event};
+ghost use Rattle.dsql_hall_steps.specs.history.Legal.{Legal};
+ghost use Rattle.dsql_hall_steps.specs.history.Readers.Course.{has_ended};
+ghost use Rattle.dsql_hall_steps.specs.history.Rules.House.{is_quiet};
+ghost use Rattle.dsql_hall_steps.specs.laws_ends.Over.{IsOver};
+ghost use Rattle.dsql_hall_steps.specs.laws_steps.Groups.{most_events};
 ghost use Rattle.dsql_hall_steps.specs.House.{IsOwn};
 ghost use Rattle.dsql_hall_steps.specs.Limits.{set_in, sets_limit};
 ghost use Rattle.dsql_hall_steps.specs.Racing.{Races, RacesAll, resting};
-ghost use Rattle.dsql_player.specs.Playing.{IsAt, IsReady};
-ghost use Rattle.dsql_player_wires.specs.Told.{FleetTells, SameAbility};
-ghost use Rattle.dsql_player_wires.specs.WiresFit.{WiresFit, slot};
+ghost use Rattle.dsql_hall_steps.specs.player.Playing.{IsAt, IsReady};
+ghost use Rattle.dsql_hall_steps.specs.player_wires.Told.{FleetTells, SameAbility};
+ghost use Rattle.dsql_hall_steps.specs.player_wires.WiresFit.{WiresFit, slot};
 ghost use Rattle.dsql_hall.specs.Fleets.{RecordsOn};
 ghost use Rattle.dsql_hall.specs.Ends.{EndsRace};
 ghost use Rattle.dsql_hall.specs.Raced.{SetsSome, ends_last, settings_of};
@@ -20,11 +20,10 @@ ghost use Rattle.dsql_hall.specs.Raced.{SetsSome, ends_last, settings_of};
 use crate::limits::set_limits;
 use crate::raced::Raced;
 use crate::shared::SharedHall;
-use dsql_engine_laws::{Fleet, Line};
-use dsql_hall_steps::{Bond, Closed, Race};
+use dsql_hall_steps::{
+    Bond, Closed, Fleet, Halt, Line, Player, Race, Wires, carry_end, retire_all,
+};
 use dsql_history::{Control, Past};
-use dsql_player::{Halt, Player, carry_end};
-use dsql_player_wires::{Wires, retire_all};
 use std::collections::VecDeque;
 
 /// Ends a race whose threads have returned, and gives all wires back to the fleet. `cut` says whether the run stopped

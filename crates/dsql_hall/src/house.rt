@@ -6,10 +6,8 @@ ghost use Rattle.dsql_hall.specs.Fleets.{KeepsHouse};
 use crate::moments::Moments;
 use crate::shared::SharedHall;
 use crate::turns::Turns;
-use dsql_engine_laws::{Fleet, Wire};
-use dsql_hall_steps::{Bond, Chore, Errand, Opening, Race};
+use dsql_hall_steps::{Bond, Chore, Errand, Fleet, Opening, Race, Wire, retire_wire};
 use dsql_history::{Clock, Gate};
-use dsql_player_wires::retire_wire;
 use std::alloc::Global;
 use std::sync::Wait;
 

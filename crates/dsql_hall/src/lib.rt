@@ -20,10 +20,10 @@ mod threads;
 mod turns;
 mod worked;
 
-pub use dsql_engine_laws::{Control, Fleet, Line};
+pub use dsql_hall_steps::{
+    Control, Fleet, Halt, KeptLine, Line, Player, Room, Wires, carry_end, carry_line, retire_all,
+};
 pub use dsql_history::{Clock, Failed, Gate, Memory, Past, Sink, Source, Txt};
-pub use dsql_player::{Halt, Player, Room, carry_end, carry_line};
-pub use dsql_player_wires::{KeptLine, Wires, retire_all};
 pub use limits::set_limits;
 pub use moments::needs_time;
 pub use raced::Raced;

@@ -1,15 +1,14 @@
 //! Sets the limits of a race.
 ghost use Rattle.std.specs.Prelude.{◌≡◌, ◌++◌, ◌≤◌, true, reverse, length, Err, OnOk};
 ghost use Rattle.std.specs.List.{list_all};
-ghost use Rattle.dsql_engine_laws.specs.laws_steps.Groups.{most_events};
+ghost use Rattle.dsql_hall_steps.specs.laws_steps.Groups.{most_events};
 ghost use Rattle.dsql_hall_steps.specs.Limits.{set_in, sets_limit};
 ghost use Rattle.dsql_hall_steps.specs.Racing.{resting};
-ghost use Rattle.dsql_player.specs.Playing.{IsAt, IsReady};
+ghost use Rattle.dsql_hall_steps.specs.player.Playing.{IsAt, IsReady};
 ghost use Rattle.dsql_hall.specs.Raced.{SetsLimits};
 
-use dsql_engine_laws::Line;
+use dsql_hall_steps::{Halt, Line, Player};
 use dsql_history::{Control, Past};
-use dsql_player::{Halt, Player};
 use std::collections::VecDeque;
 
 /// Sets these limits one after another. `_lines` are the lines of the script, newest first, for proofs alone.

@@ -1,5 +1,5 @@
 //! The moments at which the house sets the time.
-use dsql_engine_laws::Line;
+use dsql_hall_steps::Line;
 use dsql_history::{Clock, Control, Op, Setting};
 
 /// The least time between two moments that the house sets, in nanoseconds. Each moment is one of the run's events.

@@ -1,5 +1,5 @@
 //! What comes of a race.
-use dsql_player::{Halt, Player};
+use dsql_hall_steps::{Halt, Player};
 
 /// A race that is over: the player with its whole history, and what stopped the race, if anything did.
 #[derive(Drop)]

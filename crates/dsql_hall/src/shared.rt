@@ -1,11 +1,10 @@
 //! What the threads of a race share.
 ghost use Rattle.std.specs.Prelude.{◌≡◌, ◌≤◌, None, Some, length};
-ghost use Rattle.dsql_engine_laws.specs.laws_steps.Groups.{most_events};
+ghost use Rattle.dsql_hall_steps.specs.laws_steps.Groups.{most_events};
 ghost use Rattle.dsql_hall_steps.specs.Halls.{Keeps};
 ghost use Rattle.dsql_hall_steps.specs.House.{IsClosed, IsOwn};
 
-use dsql_engine_laws::Wire;
-use dsql_hall_steps::{Bond, Cell, Closed, Hall, Halt, Race};
+use dsql_hall_steps::{Bond, Cell, Closed, Hall, Halt, Race, Wire};
 use std::sync::{Condvar, Mutex};
 
 /// The hall of a race under its lock, the cell of its bonds, and the changes that threads wait for. It can't be

@@ -2,8 +2,7 @@
 ghost use Rattle.std.specs.Prelude.{◌≡◌};
 ghost use Rattle.dsql_hall.specs.Calls.{IsOfClient};
 
-use dsql_engine_laws::Wire;
-use dsql_hall_steps::{Cell, Hall, Race, Step};
+use dsql_hall_steps::{Cell, Hall, Race, Step, Wire};
 
 /// The clients that have no thread, and the place of the one whose turn it is.
 #[derive(Drop)]

@@ -1,3 +1,6 @@
+pub use Rattle.dsql_engine_laws.proofs as engine_laws
+pub use Rattle.dsql_player_wires.proofs as player_wires
+pub use Rattle.dsql_player.proofs as player
 pub mod Ordered
 pub mod Entering
 pub mod Beginning

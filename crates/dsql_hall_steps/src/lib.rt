@@ -23,8 +23,10 @@ mod step;
 
 pub use chore::Chore;
 pub use closing::Closed;
-pub use dsql_hall_bonds::{Bond, Cell, Keeper, Memory};
-pub use dsql_player::{Halt, Player};
+pub use dsql_engine_laws::{Control, Fleet, Line, Wire};
+pub use dsql_hall_bonds::{Bond, Cell, Keeper, Memory, Unnamed};
+pub use dsql_player::{Halt, Player, Room, carry_end, carry_line};
+pub use dsql_player_wires::{KeptLine, Wires, retire_all, retire_wire};
 pub use errand::{Back, Errand, Unheard};
 pub use hall::Hall;
 pub use opening::{Opened, Opening, Unopened};

@@ -1,9 +1,9 @@
 use Rattle.std.proofs.Common.{◌≡◌, ◌∙◌, Bool, false, List, length, reverse, sym, subst}
-use Rattle.dsql_engine_laws.specs.follows.declared.line.Line.{Line}
+use Rattle.dsql_hall_steps.specs.follows.declared.line.Line.{Line}
 use Rattle.dsql_hall_steps.specs.Racing.{resting}
-use Rattle.dsql_player.specs.Playing.{IsAt}
-use Rattle.dsql_player.proofs.Ended.{on_ok2}
-use Rattle.dsql_player_wires.specs.WiresFit.{WiresFit}
+use Rattle.dsql_hall_steps.specs.player.Playing.{IsAt}
+use Rattle.dsql_hall_steps.proofs.player.Ended.{on_ok2}
+use Rattle.dsql_hall_steps.specs.player_wires.WiresFit.{WiresFit}
 use Rattle.dsql_hall.proofs.Finished.{finished, full_or, halted, ok_so}
 use Rattle.dsql_hall.proofs.Plans.{tells_closed}
 use Rattle.dsql_hall.proofs.ending.end_race.Goals as goal

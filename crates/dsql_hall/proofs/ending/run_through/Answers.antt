@@ -2,7 +2,7 @@ use Rattle.std.proofs.Common.{reverse, refl, ◌∙◌}
 use Rattle.std.proofs.lemmas.Result.{on_ok_weaker}
 use Rattle.dsql_hall_steps.specs.Racing.{resting}
 use Rattle.dsql_hall_steps.proofs.Ending.{end_races}
-use Rattle.dsql_player.proofs.Keeping.{run_after}
+use Rattle.dsql_hall_steps.proofs.player.Keeping.{run_after}
 use Rattle.dsql_hall.proofs.Last.{ends_at_last}
 use Rattle.dsql_hall.proofs.Setting.{end_sets, ended_races, ended_settings}
 use Rattle.dsql_hall.proofs.ending.run_through.Goals as goal

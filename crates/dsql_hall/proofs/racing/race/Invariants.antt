@@ -1,6 +1,6 @@
 use Rattle.std.proofs.Common.{is_some}
 use Rattle.std.specs.Prelude.{reverse}
-use Rattle.dsql_engine_laws.specs.history.declared.event.Event.TheVariants.{Run}
+use Rattle.dsql_hall_steps.specs.history.declared.event.Event.TheVariants.{Run}
 use Rattle.dsql_hall.specs.Raced.{plans_first, settings_of}
 use Rattle.dsql_hall.proofs.racing.race.Given as goal
 
