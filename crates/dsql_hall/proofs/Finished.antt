@@ -14,11 +14,12 @@ use Rattle.dsql_hall_steps.specs.player.declared.halt.Halt.{Halt}
 use Rattle.dsql_hall_steps.specs.player.declared.halt.Halt.TheVariants.{Full, Memory}
 use Rattle.dsql_hall_steps.specs.player.Playing.{Playing}
 use Rattle.dsql_hall_steps.proofs.player.Ended.{on_ok2}
-use Rattle.dsql_hall_steps.specs.Halls.{Keeps, Terms}
-use Rattle.dsql_hall_steps.specs.Limits.{set_in}
+use Rattle.dsql_hall_steps.specs.Halls.{Keeps}
+use Rattle.dsql_hall_steps.specs.Limits.{SetsFirst, are_set_first, set_in, settings_first, settings_of}
 use Rattle.dsql_hall_steps.specs.Racing.{Races, RacesAll}
+use Rattle.dsql_hall_steps.specs.Terms.{Terms}
 use Rattle.dsql_hall.specs.Ends.{EndsRace}
-use Rattle.dsql_hall.specs.Raced.{RacesThrough, SetsSome, ends_last, settings_of}
+use Rattle.dsql_hall.specs.Raced.{RacesThrough, SetsSome, ends_last}
 use Rattle.dsql_hall.proofs.Setting.{left_limit}
 
 -- What is true anyway is true on success.
@@ -27,11 +28,11 @@ ok_so (Ok a) P p = p
 ok_so (Err e) P p = tt
 
 -- A race that stopped before its end is a race in part.
-pub halted : (race : Terms) (halt : Halt) (left : List Control) (p : Playing) → Keeps race p left → race.settings ≡ settings_of race.lines → (halt ≡ Full → most_events ≤ length p.past)
+pub halted : (race : Terms) (halt : Halt) (left : List Control) (p : Playing) → Keeps race p left → (halt ≡ Full → most_events ≤ length p.past)
     → EndsRace race.run race.lines (Err halt) p
-halted race halt left p keeps all full = record {
+halted race halt left p keeps full = record {
   through = tt;
-  in_part = record { some = keeps.ordered; settings = record { left = left; whole = keeps.settings ∙ all } };
+  in_part = record { some = keeps.ordered; settings = record { left = left; whole = keeps.settings }; first = keeps.first.before };
   over = tt;
   ended = tt;
   quiet = tt;
@@ -46,24 +47,26 @@ full_or None events full is = absurd cc
 full_or (Some halt) events full is = full (ap Some is)
 
 -- A race that couldn't begin for want of memory is a race in part.
-pub unbegun : (run : Event) (lines : List Line) (left : List Control) (p : Playing) → Legal p.past → Races run lines p.past → p.trimmed ≡ 0 → set_in p.past ++ left ≡ settings_of lines → EndsRace run lines (Err Memory) p
-unbegun run lines left p legal races whole all =
-    halted (record { run = run; lines = lines; settings = settings_of lines; telling = false; made = [] }) Memory left p
-    (record { legal = legal; ordered = races; whole = whole; settings = all; limits = left_limit lines (set_in p.past) left all }) refl (λ is. absurd cc)
+pub unbegun : (run : Event) (lines : List Line) (left : List Control) (p : Playing) → Legal p.past → Races run lines p.past → p.trimmed ≡ 0 → set_in p.past ++ left ≡ settings_of lines
+    → SetsFirst (length (settings_first lines)) p.past → EndsRace run lines (Err Memory) p
+unbegun run lines left p legal races whole all first =
+    halted (record { run = run; lines = lines; telling = false; made = [] }) Memory left p
+    (record { legal = legal; ordered = races; whole = whole; settings = all; first = first; limits = left_limit lines (set_in p.past) left all }) (λ is. absurd cc)
 
 -- A race whose end was tried is over, or is a race in part.
-pub finished : (race : Terms) (lines : List Line) (left : List Control) (stopped : Result (Unit {0}) Halt) (old new : Playing) → race.lines ≡ lines → Keeps race old left → race.settings ≡ settings_of race.lines
+pub finished : (race : Terms) (lines : List Line) (left : List Control) (stopped : Result (Unit {0}) Halt) (old new : Playing) → race.lines ≡ lines → Keeps race old left
     → OnOk stopped ((run : Event) → Races run lines old.past → RacesAll run lines new.past) → ((run : Event) → Races run lines old.past → Races run lines new.past) → OnOk stopped (set_in new.past ≡ set_in old.past ++ left)
-    → SetsSome (set_in old.past ++ left) new.past → OnOk stopped (set_in old.past ++ left ≡ settings_of lines → ends_last lines new.past ≡ true) → OnOk stopped (IsOver new.past) → OnOk stopped (has_ended new.past ≡ true) → OnOk stopped (is_quiet new.past ≡ true) → Legal new.past
+    → SetsSome (set_in old.past ++ left) new.past → ((many : ℕ) → SetsFirst many old.past → are_set_first many new.past ≡ true) → OnOk stopped (set_in old.past ++ left ≡ settings_of lines → ends_last lines new.past ≡ true) → OnOk stopped (IsOver new.past) → OnOk stopped (has_ended new.past ≡ true) → OnOk stopped (is_quiet new.past ≡ true) → Legal new.past
     → (stopped ≡ Err Full → most_events ≤ length new.past) → new.trimmed ≡ old.trimmed → EndsRace race.run race.lines stopped new
-finished race lines left stopped old new same keeps all carried some set some_set last over ended quiet legal full trimmed =
+finished race lines left stopped old new same keeps carried some set some_set first last over ended quiet legal full trimmed =
     let ordered : Races race.run lines old.past = subst (λ (l : List Line). Races race.run l old.past) same keeps.ordered in
-    let sets : set_in old.past ++ left ≡ settings_of lines = keeps.settings ∙ (all ∙ ap settings_of same) in
+    let sets : set_in old.past ++ left ≡ settings_of lines = keeps.settings ∙ ap settings_of same in
+    let before : are_set_first (length (settings_first lines)) new.past ≡ true = first (length (settings_first lines)) (subst (λ (l : List Line). SetsFirst (length (settings_first l)) old.past) same keeps.first) in
     subst (λ (l : List Line). EndsRace race.run l stopped new) (sym same) (record {
       through =
           on_ok2 stopped (λ (more : (set_in old.past ++ left ≡ settings_of lines → ends_last lines new.past ≡ true) → RacesThrough race.run lines new.past) latest. more latest)
-          (on_ok2 stopped (λ every done latest. record { all = every race.run ordered; settings = done ∙ sets; last = latest sets }) carried set) last;
-      in_part = record { some = some race.run ordered; settings = record { left = some_set.left; whole = some_set.whole ∙ sets } };
+          (on_ok2 stopped (λ every done latest. record { all = every race.run ordered; settings = done ∙ sets; first = before; last = latest sets }) carried set) last;
+      in_part = record { some = some race.run ordered; settings = record { left = some_set.left; whole = some_set.whole ∙ sets }; first = before };
       over = over;
       ended = ended;
       quiet = quiet;

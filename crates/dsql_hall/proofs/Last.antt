@@ -12,9 +12,9 @@ use Rattle.dsql_hall_steps.specs.follows.Moments.{Moment, at_end, begins_step, i
 use Rattle.dsql_hall_steps.specs.follows.Sentences.{come_in_turn, passed}
 use Rattle.dsql_hall_steps.specs.follows.Turns.{can_move, clients, comes_in_turn, first_chore, has_run_out, least, may_go, next_client}
 use Rattle.dsql_hall_steps.specs.player.Carried.{CarriesEnd}
-use Rattle.dsql_hall_steps.specs.Limits.{set_in}
+use Rattle.dsql_hall_steps.specs.Limits.{set_in, settings_of}
 use Rattle.dsql_hall_steps.proofs.Ordered.{lines_after, past_after}
-use Rattle.dsql_hall.specs.Raced.{ends_last, is_busy_or_done, settings_of}
+use Rattle.dsql_hall.specs.Raced.{ends_last, is_busy_or_done}
 use Rattle.dsql_hall.proofs.Setting.{turns_set}
 
 -- Before its end a history ends last.

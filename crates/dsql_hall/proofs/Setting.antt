@@ -20,16 +20,19 @@ use Rattle.dsql_hall_steps.specs.follows.Sentences.{come_in_turn, passed}
 use Rattle.dsql_hall_steps.specs.follows.Turns.{comes_in_turn}
 use Rattle.dsql_hall_steps.specs.laws_steps.Groups.{IsGroup, is_later_of}
 use Rattle.dsql_hall_steps.proofs.engine_laws.laws_steps.Later.{step_is_group}
+use Rattle.dsql_hall_steps.specs.player_wires.Extends.{Extends}
+use Rattle.dsql_hall_steps.proofs.player_wires.Extending.{extends_same, extends_then}
 use Rattle.dsql_hall_steps.specs.player.declared.halt.Halt.{Halt}
 use Rattle.dsql_hall_steps.specs.player.Carried.{CarriesEnd, HearsNothing, StopsInEnd}
 use Rattle.dsql_hall_steps.specs.player.Playing.{IsAt, IsReady, Playing}
 use Rattle.dsql_hall_steps.specs.player.Stepping.{IsTold, TakesStep}
-use Rattle.dsql_hall_steps.specs.Limits.{set_in, sets_limit}
+use Rattle.dsql_hall_steps.specs.Limits.{SetsFirst, are_set_first, limit_of, set_in, sets_limit, settings_of}
 use Rattle.dsql_hall_steps.specs.Racing.{Races, resting}
 use Rattle.dsql_hall_steps.proofs.Beginning.{told_races}
 use Rattle.dsql_hall_steps.proofs.Ending.{end_races, stop_races}
 use Rattle.dsql_hall_steps.proofs.Entering.{step_rests}
-use Rattle.dsql_hall.specs.Raced.{SetsLimits, SetsSome, limit_of, settings_of}
+use Rattle.dsql_hall_steps.proofs.SetFirst.{first_stays, told_first}
+use Rattle.dsql_hall.specs.Raced.{SetsLimits, SetsSome}
 
 -- No event after the first of a step sets a limit.
 later_sets : (n : ℕ) (e : Event) (past : List Event) → is_later_of n e ≡ true → set_in (e ∷ past) ≡ set_in past
@@ -113,8 +116,10 @@ none_so_far script limits p ready at only = record {
   set = refl;
   only = only;
   sets = record {
+    grows = extends_same p.past;
     races = λ run races. races;
     settings = record { left = limits; whole = refl };
+    first = λ many before. before;
     unheard = record { journals = λ c. refl; told = λ made. refl };
     ended = refl;
     trimmed = refl;
@@ -125,6 +130,8 @@ none_so_far script limits p ready at only = record {
 -- If the next limit couldn't be set, the history stays as it was.
 pub stays_so_far : (script : List Line) (limits : List Control) (old now new : Playing) → SetsLimits script limits old now → new.past ≡ now.past → new.trimmed ≡ now.trimmed → SetsLimits script limits old new
 stays_so_far script limits old now new s same trimmed = record {
+  grows = subst (Extends old.past) (sym same) s.grows;
+  first = λ many before. ap (are_set_first many) same ∙ s.first many before;
   races = λ run races. subst (Races run script) (sym same) (s.races run races);
   settings = subst (SetsSome (set_in old.past ++ limits)) (sym same) s.settings;
   unheard = subst (HearsNothing old.past) (sym same) s.unheard;
@@ -149,6 +156,8 @@ one_so_far script limits had left limit old now new s next tells ready ended unh
       set = set;
       only = only.1;
       sets = record {
+        grows = extends_then old.past now.past new.past s.sets.grows (record { added = step.events; whole = step.grows });
+        first = λ many before. told_first many (resting script now) now new limit step ∙ s.sets.first many before;
         races = λ run races. told_races run script (resting script now) now new limit step (s.sets.races run races);
         settings = record { left = left; whole = set };
         unheard = record { journals = λ c. unheard.journals c ∙ s.sets.unheard.journals c; told = λ made. unheard.told made ∙ s.sets.unheard.told made };
@@ -181,3 +190,13 @@ ended_set (Err halt) script p new at carries stops = stop_sets (resting script p
 pub ended_settings : (r : Result (Unit {0}) Halt) (script : List Line) (p : Playing) (new : List Event) → IsAt (resting script p) p → OnOk r ((m : Moment) → IsAt m p → CarriesEnd m p.past new)
     → OnErr r ((m : Moment) → IsAt m p → StopsInEnd m p.past new) → (settings : List Control) → SetsSome settings p.past → SetsSome settings new
 ended_settings r script p new at carries stops settings some = record { left = some.left; whole = ap (λ done. done ++ some.left) (ended_set r script p new at carries stops) ∙ some.whole }
+
+-- Limits that were set before each call as the last of them were set were set before each call at the end.
+pub ended_first : (r : Result (Unit {0}) Halt) (script : List Line) (old p : Playing) (new : List Event) → Extends old.past p.past → IsAt (resting script p) p → OnOk r ((m : Moment) → IsAt m p → CarriesEnd m p.past new)
+    → OnErr r ((m : Moment) → IsAt m p → StopsInEnd m p.past new) → (many : ℕ) → SetsFirst many old.past → are_set_first many new ≡ true
+ended_first (Ok done) script old p new grows at carries stops many first =
+    let end = carries (resting script p) at in
+    (first_stays many p.past new end.events end.grows (first_stays many old.past p.past grows.added grows.whole first)).before
+ended_first (Err halt) script old p new grows at carries stops many first =
+    let end = stops (resting script p) at in
+    (first_stays many p.past new end.events end.grows (first_stays many old.past p.past grows.added grows.whole first)).before

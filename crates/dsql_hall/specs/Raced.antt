@@ -1,9 +1,8 @@
--- What a race does with the lines of its script: which limits it sets, which faults it plans, and which calls enter.
+-- What a race does with the lines of its script: which faults it plans, which limits it sets, and which calls enter.
 use Rattle.std.specs.Prelude.{ℕ, ◌≡◌, ◌==◌, Bool, true, not, ◌&&◌, ◌||◌, List, [], ◌∷◌, ◌++◌, length, drop, Option, Some, None, filter_map, map, reverse}
 use Rattle.std.specs.List.{list_all}
 use Rattle.dsql_hall_steps.specs.driver.Wires.{WirePlan}
 use Rattle.dsql_hall_steps.specs.history.declared.event.Control.{Control}
-use Rattle.dsql_hall_steps.specs.history.declared.event.Control.TheVariants.{Set}
 use Rattle.dsql_hall_steps.specs.journal.Readers.{is_empty}
 use Rattle.dsql_hall_steps.specs.history.declared.event.Event.{Event}
 use Rattle.dsql_hall_steps.specs.history.declared.event.Event.TheVariants.{Ended}
@@ -14,20 +13,12 @@ use Rattle.dsql_hall_steps.specs.follows.declared.line.Line.{Line}
 use Rattle.dsql_hall_steps.specs.follows.declared.line.Line.TheVariants as lines
 use Rattle.dsql_hall_steps.specs.follows.Moments.{lines_of}
 use Rattle.dsql_hall_steps.specs.follows.Turns.{clients}
-use Rattle.dsql_hall_steps.specs.Limits.{set_in}
+use Rattle.dsql_hall_steps.specs.Limits.{are_set_first, set_in, settings_first, settings_of}
 use Rattle.dsql_hall_steps.specs.Racing.{Races, RacesAll}
 use Rattle.dsql_hall_steps.specs.player.Carried.{HearsNothing}
 use Rattle.dsql_hall_steps.specs.player.Playing.{Playing}
+use Rattle.dsql_hall_steps.specs.player_wires.Extends.{Extends}
 use Rattle.dsql_hall_steps.specs.player_wires.Made.{Made, PlannedAhead}
-
--- Returns the limit that a line sets, if it sets one. No line of a race sets the moment.
-abbrev pub limit_of : Line → Option Control
-limit_of (lines.Control (Set setting n)) = Some (Set setting n)
-limit_of _ = None
-
--- Returns the limits that the lines set, in the order of the lines.
-abbrev pub settings_of : List Line → List Control
-settings_of lines = filter_map limit_of lines
 
 -- Returns the fault that a line plans, with its connection and the number of its call, if the line plans one.
 abbrev pub plan_of : Line → Option WirePlan
@@ -45,10 +36,12 @@ pub record SetsSome (settings : List Control) (past : List Event) : Type 0 where
   pub whole : set_in past ++ left ≡ settings
 
 -- Holds of a player that set the first of these limits, and no others, in a race of these lines. Meanwhile no client
--- entered a line, nothing was heard, and the run didn't end.
+-- entered a line, nothing was heard, and the run didn't end. So if limits were set before each call, they still are.
 pub record SetsLimits (script : List Line) (limits : List Control) (old new : Playing) : Type 0 where
+  pub grows : Extends old.past new.past
   pub races : (run : Event) → Races run script old.past → Races run script new.past
   pub settings : SetsSome (set_in old.past ++ limits) new.past
+  pub first : (many : ℕ) → are_set_first many old.past ≡ true → are_set_first many new.past ≡ true
   pub unheard : HearsNothing old.past new.past
   pub ended : has_ended new.past ≡ has_ended old.past
   pub trimmed : new.trimmed ≡ old.trimmed
@@ -70,14 +63,17 @@ ends_last lines (_ ∷ past) = ends_last lines past
 
 -- Holds if a race carried these lines out, the oldest first. From the run's first event on each client's lines were
 -- entered in their order, each once, and each call has its reply. The limits of the lines were set in their order, and
--- no others. The run ended after that.
+-- no others. Those before the first line of a client were set before any call entered. The run ended after that.
 pub record RacesThrough (run : Event) (lines : List Line) (past : List Event) : Type 0 where
   pub all : RacesAll run lines past
   pub settings : set_in past ≡ settings_of lines
+  pub first : are_set_first (length (settings_first lines)) past ≡ true
   pub last : ends_last lines past ≡ true
 
 -- Holds if a race had to stop in these lines. Each client's lines that were entered are its first ones, in their order,
--- each once. The limits that were set are the first ones, in their order.
+-- each once. The limits that were set are the first ones, in their order. Those before the first line of a client were
+-- set before any call entered.
 pub record RacesInPart (run : Event) (lines : List Line) (past : List Event) : Type 0 where
   pub some : Races run lines past
   pub settings : SetsSome (settings_of lines) past
+  pub first : are_set_first (length (settings_first lines)) past ≡ true

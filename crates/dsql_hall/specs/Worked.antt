@@ -1,6 +1,6 @@
 -- Worked races of three lines: entries that are in the order of the lines, and damaged ones. The lines are oldest
 -- first, and the events newest first.
-use Rattle.std.specs.Prelude.{◌≡◌, Bool, true, false, List, [], ◌∷◌, pos}
+use Rattle.std.specs.Prelude.{◌≡◌, Bool, true, false, List, [], ◌∷◌, length, pos}
 use Rattle.dsql_hall_steps.specs.driver.declared.caps.Caps.{Caps}
 use Rattle.dsql_hall_steps.specs.driver.declared.wire.Planned.TheVariants.{Bad, Invalid}
 use Rattle.dsql_hall_steps.specs.history.declared.event.Control.TheVariants.{Set}
@@ -13,8 +13,9 @@ use Rattle.dsql_hall_steps.specs.follows.declared.line.Line.{Line}
 use Rattle.dsql_hall_steps.specs.follows.declared.line.Line.TheVariants.{Client, Control, Fault, Skip}
 use Rattle.dsql_hall_steps.specs.follows.Sentences.{enters_in_order}
 use Rattle.dsql_hall_steps.specs.follows.Follows.{leaves_nothing}
+use Rattle.dsql_hall_steps.specs.Limits.{are_set_first, settings_first, settings_of}
 use Rattle.dsql_hall_steps.specs.Racing.{raced}
-use Rattle.dsql_hall.specs.Raced.{ends_last, plans_first, settings_of}
+use Rattle.dsql_hall.specs.Raced.{ends_last, plans_first}
 use Rattle.dsql_hall_steps.specs.player_wires.Made.{PlannedAhead}
 
 -- Client 1 asks for the counts, and then closes the database. Client 2 asks for the counts.
@@ -40,6 +41,14 @@ are_in_order caps events = enters_in_order (raced (Run 1 caps) three_lines) even
 abbrev pub are_all : Caps → List Event → Bool
 are_all caps events = leaves_nothing (raced (Run 1 caps) three_lines) events
 
+-- The first limit stands before the first line of a client, and the second one after it.
+abbrev pub limited_lines : List Line
+limited_lines = Control (Set MaxOpen (pos 2)) ∷ Client 1 Stats ∷ Control (Set MaxIdle (pos 1)) ∷ []
+
+-- Is true if the limits that stand before the first line of a client were set before each call of these events.
+abbrev pub are_limited_first : List Event → Bool
+are_limited_first events = are_set_first (length (settings_first limited_lines)) events
+
 -- Says which events race the three lines, and what lines set and plan.
 pub record WorkedRaces (caps : Caps) : Type 0 where
   pub in_order : are_in_order caps second_first ≡ true
@@ -60,6 +69,17 @@ pub record WorkedRaces (caps : Caps) : Type 0 where
   pub too_soon : ends_last three_lines (Ended ∷ Replied 1 Ok ∷ Entered 2 1 Stats ∷ Run 1 caps ∷ []) ≡ false
   pub limit_after : ends_last (Control (Set MaxOpen (pos 2)) ∷ []) (SetLimit MaxOpen (pos 2)
       ∷ Ended
+      ∷ Run 1 caps
+      ∷ []) ≡ false
+  pub first : settings_first limited_lines ≡ Set MaxOpen (pos 2) ∷ []
+  pub limited : are_limited_first (SetLimit MaxIdle (pos 1)
+      ∷ Entered 1 1 Stats
+      ∷ SetLimit MaxOpen (pos 2)
+      ∷ Run 1 caps
+      ∷ []) ≡ true
+  pub unlimited : are_limited_first (SetLimit MaxIdle (pos 1)
+      ∷ SetLimit MaxOpen (pos 2)
+      ∷ Entered 1 1 Stats
       ∷ Run 1 caps
       ∷ []) ≡ false
   pub limits : settings_of (Control (Set MaxOpen (pos 2)) ∷ Skip ∷ Control (Set MaxIdle (pos 1)) ∷ [])

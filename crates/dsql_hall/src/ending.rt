@@ -8,14 +8,14 @@ ghost use Rattle.dsql_hall_steps.specs.history.Rules.House.{is_quiet};
 ghost use Rattle.dsql_hall_steps.specs.laws_ends.Over.{IsOver};
 ghost use Rattle.dsql_hall_steps.specs.laws_steps.Groups.{most_events};
 ghost use Rattle.dsql_hall_steps.specs.House.{IsOwn};
-ghost use Rattle.dsql_hall_steps.specs.Limits.{set_in, sets_limit};
+ghost use Rattle.dsql_hall_steps.specs.Limits.{SetsFirst, are_set_first, set_in, sets_limit, settings_of};
 ghost use Rattle.dsql_hall_steps.specs.Racing.{Races, RacesAll, resting};
 ghost use Rattle.dsql_hall_steps.specs.player.Playing.{IsAt, IsReady};
 ghost use Rattle.dsql_hall_steps.specs.player_wires.Told.{FleetTells, SameAbility};
 ghost use Rattle.dsql_hall_steps.specs.player_wires.WiresFit.{WiresFit, slot};
 ghost use Rattle.dsql_hall.specs.Fleets.{RecordsOn};
 ghost use Rattle.dsql_hall.specs.Ends.{EndsRace};
-ghost use Rattle.dsql_hall.specs.Raced.{SetsSome, ends_last, settings_of};
+ghost use Rattle.dsql_hall.specs.Raced.{SetsSome, ends_last};
 
 use crate::limits::set_limits;
 use crate::raced::Raced;
@@ -36,14 +36,13 @@ pub(crate) fn end_race<K: Race, F: Fleet>(
     lines: &Past<Line>,
     fleet: &mut F,
 ) -> Raced
-    requires own { IsOwn K.made own }
-    requires telling { cut ≡ false → is_some (F.told fleet.old) ≡ K.telling }
-    requires lines { K.lines ≡ reverse lines.now.items }
-    requires settings { K.settings ≡ settings_of K.lines }
-    ensures ends { EndsRace K.run K.lines result.stopped result.player }
+    requires own { IsOwn K.terms.made own }
+    requires telling { cut ≡ false → is_some (F.told fleet.old) ≡ K.terms.telling }
+    requires lines { K.terms.lines ≡ reverse lines.now.items }
+    ensures ends { EndsRace K.terms.run K.terms.lines result.stopped result.player }
     ensures uncut { OnOk result.stopped (cut ≡ false) }
     ensures told { OnOk result.stopped
-        (RecordsOn K.made (F.told fleet.old) (F.told fleet.new) own.past result.player.past) }
+        (RecordsOn K.terms.made (F.told fleet.old) (F.told fleet.new) own.past result.player.past) }
     ensures able { SameAbility F.Fleet fleet.old fleet.new }
 {
     let Closed {
@@ -87,6 +86,7 @@ fn run_through<F: Fleet>(
         → Races run (reverse lines.now.items) player.new.past }
     ensures set { OnOk result (set_in player.new.past ≡ set_in player.old.past ++ settings.items) }
     ensures some_set { SetsSome (set_in player.old.past ++ settings.items) player.new.past }
+    ensures first { (many : ℕ) → SetsFirst many player.old.past → are_set_first many player.new.past ≡ true }
     ensures last { OnOk result (set_in player.old.past ++ settings.items ≡ settings_of (reverse lines.now.items)
         → ends_last (reverse lines.now.items) player.new.past ≡ true) }
     ensures over { OnOk result (IsOver player.new.past) }

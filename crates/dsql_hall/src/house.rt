@@ -36,10 +36,10 @@ impl<K: Race, W: Wire> SharedHall<K, W> {
         house: House<'f, 'c, K, F, C>,
     ) -> House<'f, 'c, K, F, C>
         requires uncut { house.cut ≡ false }
-        requires own { IsOwn K.made house.own }
-        requires telling { is_some (F.told house.fleet.now) ≡ K.telling }
+        requires own { IsOwn K.terms.made house.own }
+        requires telling { is_some (F.told house.fleet.now) ≡ K.terms.telling }
         ensures same { result.fleet.ghost_name ≡ house.entry.fleet.ghost_name }
-        ensures keeps { KeepsHouse F.Fleet K.made house.entry.fleet.now
+        ensures keeps { KeepsHouse F.Fleet K.terms.made house.entry.fleet.now
             result.fleet.now house.entry.own result.own result.cut }
     {
         let mut house = house;
@@ -64,10 +64,10 @@ impl<K: Race, W: Wire> SharedHall<K, W> {
         mut house: House<'f, 'c, K, F, C>,
     ) -> House<'f, 'c, K, F, C>
         requires uncut { house.cut ≡ false }
-        requires own { IsOwn K.made house.own }
-        requires telling { is_some (F.told house.fleet.now) ≡ K.telling }
+        requires own { IsOwn K.terms.made house.own }
+        requires telling { is_some (F.told house.fleet.now) ≡ K.terms.telling }
         ensures same { result.fleet.ghost_name ≡ house.entry.fleet.ghost_name }
-        ensures keeps { KeepsHouse F.Fleet K.made house.entry.fleet.now
+        ensures keeps { KeepsHouse F.Fleet K.terms.made house.entry.fleet.now
             result.fleet.now house.entry.own result.own result.cut }
     {
         self.set_moment(rt, &mut house.moments);
@@ -114,10 +114,10 @@ impl<K: Race, W: Wire> SharedHall<K, W> {
         house: House<'f, 'c, K, F, C>,
         opening: Opening<K>,
     ) -> House<'f, 'c, K, F, C>
-        requires own { IsOwn K.made house.own }
-        requires telling { is_some (F.told house.fleet.now) ≡ K.telling }
+        requires own { IsOwn K.terms.made house.own }
+        requires telling { is_some (F.told house.fleet.now) ≡ K.terms.telling }
         ensures same { result.fleet.ghost_name ≡ house.entry.fleet.ghost_name }
-        ensures keeps { KeepsHouse F.Fleet K.made house.entry.fleet.now
+        ensures keeps { KeepsHouse F.Fleet K.terms.made house.entry.fleet.now
             result.fleet.now house.entry.own result.own result.cut }
     {
         let House {
@@ -157,11 +157,11 @@ impl<K: Race, W: Wire> SharedHall<K, W> {
         house: House<'f, 'c, K, F, C>,
         errand: Errand<K, W>,
     ) -> House<'f, 'c, K, F, C>
-        requires own { IsOwn K.made house.own }
-        requires telling { is_some (F.told house.fleet.now) ≡ K.telling }
+        requires own { IsOwn K.terms.made house.own }
+        requires telling { is_some (F.told house.fleet.now) ≡ K.terms.telling }
         requires shuts { IsShutting errand.work }
         ensures same { result.fleet.ghost_name ≡ house.entry.fleet.ghost_name }
-        ensures keeps { KeepsHouse F.Fleet K.made house.entry.fleet.now
+        ensures keeps { KeepsHouse F.Fleet K.terms.made house.entry.fleet.now
             result.fleet.now house.entry.own result.own result.cut }
     {
         let House {

@@ -8,13 +8,13 @@ ghost use Rattle.dsql_hall_steps.specs.history.Readers.Journals.{journal};
 ghost use Rattle.dsql_hall_steps.specs.history.Rules.House.{is_quiet};
 ghost use Rattle.dsql_hall_steps.specs.laws_ends.Over.{IsOver};
 ghost use Rattle.dsql_hall_steps.specs.laws_steps.Groups.{most_events};
-ghost use Rattle.dsql_hall_steps.specs.Limits.{set_in};
+ghost use Rattle.dsql_hall_steps.specs.Limits.{SetsFirst, set_in, settings_first, settings_of};
 ghost use Rattle.dsql_hall_steps.specs.Racing.{Races, resting};
 ghost use Rattle.dsql_hall_steps.specs.player.Playing.{IsAt, IsReady};
 ghost use Rattle.dsql_hall_steps.specs.player_wires.Told.{SameAbility, with_told};
 ghost use Rattle.dsql_hall.specs.Ends.{EndsRace};
 ghost use Rattle.dsql_hall.specs.Fleets.{RecordsOn};
-ghost use Rattle.dsql_hall.specs.Raced.{RacesInPart, RacesThrough, plans_first, settings_of};
+ghost use Rattle.dsql_hall.specs.Raced.{RacesInPart, RacesThrough, plans_first};
 
 use crate::ending::end_race;
 use crate::house::House;
@@ -29,9 +29,9 @@ use std::marker::Brand;
 use std::sync::Wait;
 use std::thread::Threads;
 
-/// Races the lines that the player's clients keep, and sets the limits. If `timed` is set, also sets the moments that
-/// the clock shows. Then ends the run, and gives all wires back to the fleet. `lines` are the lines of the script,
-/// newest first, for proofs alone.
+/// Races the lines that the player's clients keep, and sets these limits. Those before the first line of a client must
+/// be set already. If `timed` is set, also sets the moments that the clock shows. Then ends the run, and gives all
+/// wires back to the fleet. `lines` are the lines of the script, newest first, for proofs alone.
 pub fn race<F: Fleet, C: Clock, G: Gate, R: Threads + Wait + Sync>(
     rt: &R,
     alloc: Global,
@@ -50,6 +50,7 @@ pub fn race<F: Fleet, C: Clock, G: Gate, R: Threads + Wait + Sync>(
     requires at { IsAt (resting (reverse lines.items) player) player }
     requires races { Races (Run 1 (F.ability fleet.old)) (reverse lines.items) player.past }
     requires limits { set_in player.past ++ settings.items ≡ settings_of (reverse lines.items) }
+    requires first { SetsFirst (length (settings_first (reverse lines.items))) player.past }
     ensures through { OnOk result.stopped
         (RacesThrough (Run 1 (F.ability fleet.old)) (reverse lines.items) result.player.past) }
     ensures in_part { RacesInPart (Run 1 (F.ability fleet.old)) (reverse lines.items) result.player.past }
@@ -126,20 +127,20 @@ fn run<K: Race, F: Fleet, C: Clock, G: Gate, R: Threads + Wait + Sync>(
     gate: &G,
 ) -> Raced
     requires cell { unnamed ≡ K.cell }
-    requires lines { K.lines ≡ reverse lines.now.items }
-    requires settings { K.settings ≡ settings_of K.lines }
-    requires made { K.made ≡ plans_first K.lines }
-    requires telling { K.telling ≡ is_some (F.told fleet.old) }
+    requires lines { K.terms.lines ≡ reverse lines.now.items }
+    requires made { K.terms.made ≡ plans_first K.terms.lines }
+    requires telling { K.terms.telling ≡ is_some (F.told fleet.old) }
     requires ready { IsReady player }
     requires running { has_ended player.past ≡ false }
     requires unopened { (c : ℕ) → journal player.past c ≡ [] }
     requires whole { player.trimmed ≡ 0 }
-    requires at { IsAt (resting K.lines player) player }
-    requires races { Races K.run K.lines player.past }
-    requires limits { set_in player.past ++ settings.items ≡ K.settings }
-    ensures ends { EndsRace K.run K.lines result.stopped result.player }
+    requires at { IsAt (resting K.terms.lines player) player }
+    requires races { Races K.terms.run K.terms.lines player.past }
+    requires limits { set_in player.past ++ settings.items ≡ settings_of K.terms.lines }
+    requires first { SetsFirst (length (settings_first K.terms.lines)) player.past }
+    ensures ends { EndsRace K.terms.run K.terms.lines result.stopped result.player }
     ensures told { OnOk result.stopped
-        (RecordsOn K.made (F.told fleet.old) (F.told fleet.new) player.past result.player.past) }
+        (RecordsOn K.terms.made (F.told fleet.old) (F.told fleet.new) player.past result.player.past) }
     ensures able { SameAbility F.Fleet fleet.old fleet.new }
 {
     let (cell, keeper) = unnamed.named::<K>();

@@ -30,22 +30,10 @@ impl<K: Race, W: Wire> SharedHall<K, W> {
 
     /// Closes the hall, after all other threads of the race have returned.
     pub(crate) fn close(self, own: Bond<K>) -> Closed<W>
-        requires own { IsOwn K.made own }
-        ensures keeps { Keeps (record {
-          run = K.run;
-          lines = K.lines;
-          settings = K.settings;
-          telling = K.telling;
-          made = K.made;
-        }) result.player result.settings.items }
+        requires own { IsOwn K.terms.made own }
+        ensures keeps { Keeps K.terms result.player result.settings.items }
         ensures full { result.stopped ≡ Some Halt.Full → most_events ≤ length result.player.past }
-        ensures well { result.stopped ≡ None → IsClosed W.told (record {
-          run = K.run;
-          lines = K.lines;
-          settings = K.settings;
-          telling = K.telling;
-          made = K.made;
-        }) own.past result.player result.wires }
+        ensures well { result.stopped ≡ None → IsClosed W.told K.terms own.past result.player result.wires }
     {
         let SharedHall {
             cell,

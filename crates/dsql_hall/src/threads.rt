@@ -35,18 +35,18 @@ pub(crate) fn run_threads<
     clock: &'c mut C,
     timed: bool,
 ) -> House<'f, 'c, K, F, C>
-    requires own { IsOwn K.made own }
-    requires telling { is_some (F.told fleet.old) ≡ K.telling }
+    requires own { IsOwn K.terms.made own }
+    requires telling { is_some (F.told fleet.old) ≡ K.terms.telling }
     ensures same { result.fleet.ghost_name ≡ fleet.entry.ghost_name }
-    ensures keeps { KeepsHouse F.Fleet K.made fleet.entry.now result.fleet.now own result.own result.cut }
+    ensures keeps { KeepsHouse F.Fleet K.terms.made fleet.entry.now result.fleet.now own result.own result.cut }
 {
     thread::scope(
         thread::scope_env(),
         rt,
         |scope| -> House<K, F, C>
-            requires { IsOwn K.made own × (is_some (F.told fleet.now) ≡ K.telling) }
+            requires { IsOwn K.terms.made own × (is_some (F.told fleet.now) ≡ K.terms.telling) }
             ensures same { result.fleet.ghost_name ≡ fleet.entry.ghost_name }
-            ensures keeps { KeepsHouse F.Fleet K.made fleet.entry.now result.fleet.now own result.own result.cut }
+            ensures keeps { KeepsHouse F.Fleet K.terms.made fleet.entry.now result.fleet.now own result.own result.cut }
         {
             let left = start_clients(scope, rt, shared, gate, clients);
             let house = House {

@@ -34,9 +34,10 @@ use Rattle.dsql_player.proofs.Standing.{answer_taken, has_lines}
 use Rattle.dsql_hall_bonds.specs.Work.{Work, find, without}
 use Rattle.dsql_hall_bonds.proofs.Finding.{find_without, find_without_other}
 use Rattle.dsql_hall_steps.specs.Errands.{Brought, IsBack}
-use Rattle.dsql_hall_steps.specs.Halls.{GoesOn, InHall, IsAtHome, IsAway, IsHall, IsOfClient, IsOut, SlotFits, Terms, house}
+use Rattle.dsql_hall_steps.specs.Halls.{GoesOn, InHall, IsAtHome, IsAway, IsHall, IsOfClient, IsOut, SlotFits, house}
 use Rattle.dsql_hall_steps.specs.Limits.{set_in}
 use Rattle.dsql_hall_steps.specs.Racing.{resting}
+use Rattle.dsql_hall_steps.specs.Terms.{Terms}
 use Rattle.dsql_hall_steps.proofs.Carrying.{back_home, slot_set}
 use Rattle.dsql_hall_steps.proofs.Entering.{step_rests}
 use Rattle.dsql_hall_steps.proofs.Frames.{Spares, clients_step, out_stays, slot_stays, spares_step}

@@ -21,9 +21,10 @@ use Rattle.dsql_player.specs.Playing.{Playing}
 use Rattle.dsql_player.proofs.Answering.{entry_conn}
 use Rattle.dsql_hall_bonds.specs.Work.{Work, find, without}
 use Rattle.dsql_hall_steps.specs.Errands.{Brought, IsBack}
-use Rattle.dsql_hall_steps.specs.Halls.{InHall, IsAtHome, IsHall, Keeps, MayComeBack, Terms, house}
+use Rattle.dsql_hall_steps.specs.Halls.{InHall, IsAtHome, IsHall, Keeps, MayComeBack, house}
 use Rattle.dsql_hall_steps.specs.House.{IsShutting, own_work}
 use Rattle.dsql_hall_steps.specs.Openings.{Found, IsFound}
+use Rattle.dsql_hall_steps.specs.Terms.{Terms}
 use Rattle.dsql_hall_steps.proofs.Carrying.{ChangesSlot, back_home, stopped_hall}
 use Rattle.dsql_hall_steps.proofs.ChoreAnswered.{IsAnswered, TookChore, away, its_journal, took_on}
 use Rattle.dsql_hall_steps.proofs.Returned.{it_counts}

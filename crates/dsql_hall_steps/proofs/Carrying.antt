@@ -17,9 +17,10 @@ use Rattle.dsql_player.specs.declared.halt.Halt.TheVariants as halts
 use Rattle.dsql_player.specs.Playing.{Playing}
 use Rattle.dsql_hall_bonds.specs.Work.{Work, find, without}
 use Rattle.dsql_hall_bonds.proofs.Finding.{find_here, find_other}
-use Rattle.dsql_hall_steps.specs.Halls.{HasHome, HouseIsOut, InHall, IsHall, IsOut, Keeps, MayComeBack, SlotFits, Terms, house}
-use Rattle.dsql_hall_steps.specs.Limits.{set_in}
+use Rattle.dsql_hall_steps.specs.Halls.{HasHome, HouseIsOut, InHall, IsHall, IsOut, Keeps, MayComeBack, SlotFits, house}
+use Rattle.dsql_hall_steps.specs.Limits.{SetsFirst, set_in, settings_first}
 use Rattle.dsql_hall_steps.specs.Racing.{Races}
+use Rattle.dsql_hall_steps.specs.Terms.{Terms}
 use Rattle.dsql_hall_steps.proofs.Out.{apart_with, apart_without, few_out, found_with, found_without, one_struck}
 
 -- Holds if at most the slot of connection c changed, and no slot is lost.
@@ -120,6 +121,7 @@ keeps_still race p q settings same trimmed keeps = record {
   ordered = subst (Races race.run race.lines) (sym same) keeps.ordered;
   whole = trimmed ∙ keeps.whole;
   settings = ap (λ past. set_in past ++ settings) same ∙ keeps.settings;
+  first = subst (SetsFirst (length (settings_first race.lines))) (sym same) keeps.first;
   limits = keeps.limits;
 }
 

@@ -29,10 +29,11 @@ use Rattle.dsql_player.proofs.Grouped.{Grouped, hears_grouped}
 use Rattle.dsql_player.proofs.Hearing.{all_quiet, answer_grown}
 use Rattle.dsql_hall_bonds.specs.Work.{Work, find, without}
 use Rattle.dsql_hall_bonds.proofs.Finding.{find_here, find_other, find_without, find_without_other}
-use Rattle.dsql_hall_steps.specs.Halls.{GoesOn, InHall, IsAtHome, IsAway, IsHall, IsOfLayer, IsOut, MayComeBack, SlotFits, Terms, house}
+use Rattle.dsql_hall_steps.specs.Halls.{GoesOn, InHall, IsAtHome, IsAway, IsHall, IsOfLayer, IsOut, MayComeBack, SlotFits, house}
 use Rattle.dsql_hall_steps.specs.House.{IsOwn, own_work}
 use Rattle.dsql_hall_steps.specs.Limits.{set_in}
 use Rattle.dsql_hall_steps.specs.Racing.{resting}
+use Rattle.dsql_hall_steps.specs.Terms.{Terms}
 use Rattle.dsql_hall_steps.proofs.Answered.{answered_journal}
 use Rattle.dsql_hall_steps.proofs.Carrying.{ChangesSlot, back_home}
 use Rattle.dsql_hall_steps.proofs.Entering.{step_rests}

@@ -32,9 +32,10 @@ use Rattle.dsql_player.specs.Playing.{Playing}
 use Rattle.dsql_player.proofs.Answering.{HasLeave, leave_at}
 use Rattle.dsql_hall_bonds.specs.Work.{Work, find}
 use Rattle.dsql_hall_steps.specs.Errands.{IsErrand}
-use Rattle.dsql_hall_steps.specs.Halls.{GoesOn, InHall, IsAtHome, IsHall, IsOfClient, IsOfLayer, IsOut, SlotFits, Terms, house}
+use Rattle.dsql_hall_steps.specs.Halls.{GoesOn, InHall, IsAtHome, IsHall, IsOfClient, IsOfLayer, IsOut, SlotFits, house}
 use Rattle.dsql_hall_steps.specs.House.{IsShutting}
 use Rattle.dsql_hall_steps.specs.Openings.{IsOpening}
+use Rattle.dsql_hall_steps.specs.Terms.{Terms}
 use Rattle.dsql_hall_steps.proofs.Carrying.{ChangesSlot, sent_back, sent_fits, sent_house, sent_work, slot_set}
 use Rattle.dsql_hall_steps.proofs.Sent.{slot_room, wire_at_home}
 

@@ -14,9 +14,10 @@ use Rattle.dsql_player.specs.declared.halt.Halt.TheVariants.{Memory}
 use Rattle.dsql_player.specs.Playing.{IsAt, IsReady, Playing}
 use Rattle.dsql_hall_bonds.specs.Work.{Work, find}
 use Rattle.dsql_hall_bonds.proofs.Finding.{find_here, find_other}
-use Rattle.dsql_hall_steps.specs.Halls.{GoesOn, InHall, IsAtHome, IsAway, IsHall, IsOut, Keeps, SlotFits, Terms, house}
+use Rattle.dsql_hall_steps.specs.Halls.{GoesOn, InHall, IsAtHome, IsAway, IsHall, IsOut, Keeps, SlotFits, house}
 use Rattle.dsql_hall_steps.specs.House.{IsClosed, IsOwn, first_hall, own_work, stopped_by}
 use Rattle.dsql_hall_steps.specs.Racing.{resting}
+use Rattle.dsql_hall_steps.specs.Terms.{Terms}
 
 -- The hall is opened.
 

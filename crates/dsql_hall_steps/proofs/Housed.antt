@@ -11,9 +11,10 @@ use Rattle.dsql_player.specs.declared.halt.Halt.TheVariants as halts
 use Rattle.dsql_player.specs.Playing.{IsAt, Playing}
 use Rattle.dsql_player.specs.Stepping.{IsNext, IsTold, TakesStep, goes}
 use Rattle.dsql_hall_bonds.specs.Work.{Work}
-use Rattle.dsql_hall_steps.specs.Halls.{InHall, IsHall, MayComeBack, Terms}
+use Rattle.dsql_hall_steps.specs.Halls.{InHall, IsHall, MayComeBack}
 use Rattle.dsql_hall_steps.specs.House.{ComesFirst}
 use Rattle.dsql_hall_steps.specs.HouseSteps.{HasRunOut, HouseWaits, LacksSlot, SetsLimit, TakesOut}
+use Rattle.dsql_hall_steps.specs.Terms.{Terms}
 use Rattle.dsql_hall_steps.proofs.Carrying.{ChangesSlot, stopped_hall}
 use Rattle.dsql_hall_steps.proofs.Setting.{HasSet, set_on}
 

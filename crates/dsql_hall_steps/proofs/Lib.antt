@@ -4,6 +4,7 @@ pub use Rattle.dsql_player.proofs as player
 pub mod Ordered
 pub mod Entering
 pub mod Beginning
+pub mod SetFirst
 pub mod Ending
 pub mod Out
 pub mod Frames

@@ -26,11 +26,13 @@ use Rattle.dsql_player.specs.Stepping.{IsEntryOf, IsOfItself, TakesStep, Wakes}
 use Rattle.dsql_player.proofs.Answering.{leave_at}
 use Rattle.dsql_player.proofs.Grouped.{Grouped}
 use Rattle.dsql_hall_bonds.specs.Work.{find}
-use Rattle.dsql_hall_steps.specs.Halls.{GoesOn, InHall, IsHall, Keeps, Terms}
-use Rattle.dsql_hall_steps.specs.Limits.{set_in}
+use Rattle.dsql_hall_steps.specs.Halls.{GoesOn, InHall, IsHall, Keeps}
+use Rattle.dsql_hall_steps.specs.Limits.{SetsFirst, set_in, settings_first}
 use Rattle.dsql_hall_steps.specs.Racing.{resting}
+use Rattle.dsql_hall_steps.specs.Terms.{Terms}
 use Rattle.dsql_hall_steps.proofs.Entering.{step_races, step_rests, wakes_races, wakes_rests}
 use Rattle.dsql_hall_steps.proofs.Out.{none_of}
+use Rattle.dsql_hall_steps.proofs.SetFirst.{first_stays}
 use Rattle.dsql_hall_steps.proofs.Frames.{IsQuiet, KeepsClients, Spares, clients_same, clients_step, entry_is_quiet, house_stays, itself_is_quiet, out_stays, slot_stays, spares_same, spares_step, step_sets}
 
 -- Holds if each client that has leave keeps it.
@@ -86,6 +88,7 @@ module _ (race : Terms) (p q : Playing) (kind : Event → ℕ → Type 0) (t : T
     ordered = step_races race.run race.lines p q kind keeps.ordered t;
     whole = trimmed ∙ keeps.whole;
     settings = ap (λ limits. limits ++ settings) (step_sets p.past q.past t.first t.call group ∙ sets p.past) ∙ keeps.settings;
+    first = first_stays (length (settings_first race.lines)) p.past q.past t.events t.grows keeps.first;
     limits = keeps.limits;
   }
 
@@ -157,6 +160,7 @@ module _ {W : Type 0} (heard : W → Option WireTold) (race : Terms) (h : InHall
         ordered = wakes_races false race.run race.lines n h.player q is.keeps.ordered w;
         whole = acted.trimmed ∙ is.keeps.whole;
         settings = ap (λ past. set_in past ++ h.settings) w.0 ∙ is.keeps.settings;
+        first = subst (SetsFirst (length (settings_first race.lines))) (sym w.0) is.keeps.first;
         limits = is.keeps.limits;
       })
       (record {

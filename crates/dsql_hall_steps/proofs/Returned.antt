@@ -13,7 +13,8 @@ use Rattle.dsql_player.specs.Playing.{Playing}
 use Rattle.dsql_player.proofs.Answering.{entry_conn}
 use Rattle.dsql_hall_bonds.specs.Work.{Work, find, without}
 use Rattle.dsql_hall_steps.specs.Errands.{Brought, IsBack, IsUnheard, IsWorkOf, Sent}
-use Rattle.dsql_hall_steps.specs.Halls.{HasHome, InHall, IsHall, Keeps, MayComeBack, Terms, house}
+use Rattle.dsql_hall_steps.specs.Halls.{HasHome, InHall, IsHall, Keeps, MayComeBack, house}
+use Rattle.dsql_hall_steps.specs.Terms.{Terms}
 use Rattle.dsql_hall_steps.proofs.Answered.{TookIn, heard_on}
 use Rattle.dsql_hall_steps.proofs.Carrying.{back_home, slot_set, some_away, stopped_hall}
 

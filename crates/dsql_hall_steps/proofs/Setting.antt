@@ -1,6 +1,6 @@
 -- The house sets a limit or the present moment. The argument is that nothing is heard in that step, and that each client
 -- keeps its leave.
-use Rattle.std.proofs.Common.{◌≡◌, ℕ, true, false, List, [], ◌∷◌, ◌++◌, None, refl, Option, ap, sym, ◌∙◌, append_assoc}
+use Rattle.std.proofs.Common.{◌≡◌, ℕ, true, false, List, [], ◌∷◌, ◌++◌, length, None, refl, Option, ap, sym, ◌∙◌, append_assoc}
 use Rattle.std.specs.List.{list_all}
 use Rattle.dsql_engine_laws.specs.driver.Wires.{WireTold}
 use Rattle.dsql_engine_laws.specs.history.declared.event.Control.{Control}
@@ -16,13 +16,15 @@ use Rattle.dsql_player.specs.Carried.{HearsNothing}
 use Rattle.dsql_player.specs.Keeping.{SameCourse}
 use Rattle.dsql_player.specs.Playing.{IsAt, IsReady, Playing}
 use Rattle.dsql_player.specs.Stepping.{IsTold, TakesStep}
-use Rattle.dsql_hall_steps.specs.Halls.{GoesOn, InHall, IsHall, Keeps, Terms}
+use Rattle.dsql_hall_steps.specs.Halls.{GoesOn, InHall, IsHall, Keeps}
 use Rattle.dsql_hall_steps.specs.House.{ComesFirst}
-use Rattle.dsql_hall_steps.specs.Limits.{set_in, sets_limit}
+use Rattle.dsql_hall_steps.specs.Limits.{set_in, sets_limit, settings_first}
 use Rattle.dsql_hall_steps.specs.Racing.{resting}
+use Rattle.dsql_hall_steps.specs.Terms.{Terms}
 use Rattle.dsql_hall_steps.proofs.Entering.{step_races}
 use Rattle.dsql_hall_steps.proofs.Frames.{step_sets}
 use Rattle.dsql_hall_steps.proofs.Moving.{grouped_of, moves_on, step_moves}
+use Rattle.dsql_hall_steps.proofs.SetFirst.{first_stays}
 
 -- A limit or a moment is heard on no connection.
 told_off : (control : Control) (c : ℕ) → hears_on c (told control) ≡ false
@@ -73,6 +75,7 @@ module _ {W : Type 0} (heard : W → Option WireTold) (race : Terms) (h : InHall
         ordered = step_races race.run race.lines p q (IsTold p.past control) is.keeps.ordered t;
         whole = set.trimmed ∙ is.keeps.whole;
         settings = ap (λ sets. sets ++ later) grown ∙ (same ∙ is.keeps.settings);
+        first = first_stays (length (settings_first race.lines)) p.past q.past t.events t.grows is.keeps.first;
         limits = limits;
       }
 

@@ -10,7 +10,6 @@ use Rattle.dsql_engine_laws.specs.history.Readers.Clients.{client_of}
 use Rattle.dsql_engine_laws.specs.history.Readers.Course.{has_ended}
 use Rattle.dsql_engine_laws.specs.history.Readers.Journals.{journal}
 use Rattle.dsql_engine_laws.specs.history.Readers.Pool.{place}
-use Rattle.dsql_engine_laws.specs.follows.declared.line.Line.{Line}
 use Rattle.dsql_engine_laws.specs.laws_steps.Groups.{most_events}
 use Rattle.dsql_engine_laws.specs.going.Permits.{chore_permit}
 use Rattle.dsql_engine_laws.specs.wire.Journaled.{Journaled}
@@ -22,17 +21,9 @@ use Rattle.dsql_player.specs.declared.halt.Halt.{Halt}
 use Rattle.dsql_player.specs.declared.halt.Halt.TheVariants as halts
 use Rattle.dsql_player.specs.Playing.{IsAt, IsReady, Playing}
 use Rattle.dsql_hall_bonds.specs.Work.{Work, find}
-use Rattle.dsql_hall_steps.specs.Limits.{set_in, sets_limit}
+use Rattle.dsql_hall_steps.specs.Limits.{SetsFirst, set_in, sets_limit, settings_first, settings_of}
 use Rattle.dsql_hall_steps.specs.Racing.{Races, resting}
-
--- What a race is given: the run's first event, the lines of clients and the limits, each oldest first. It also says
--- whether every wire keeps a record, and which plans were made before.
-pub record Terms : Type 0 where
-  pub run : Event
-  pub lines : List Line
-  pub settings : List Control
-  pub telling : Bool
-  pub made : List Made
+use Rattle.dsql_hall_steps.specs.Terms.{Terms}
 
 -- A hall: the player, the wires that are at home, the work that is out and how much it is, and the limits to come. What
 -- stopped the run, the connection of the layer's own driver call that is out, and whether only the end is left.
@@ -108,12 +99,14 @@ pub record GoesOn {W : Type 0} (heard : W → Option WireTold) (race : Terms) (h
   pub fleet : HouseIsOut race.made h.player.past h.out
 
 -- Holds of a history in which the clients' lines enter in their order. The limits that were set, with those to come,
--- are the ones of the race. None of its events was trimmed.
+-- are the ones of the lines. Those before the first line of a client were set before any call entered. None of its
+-- events was trimmed.
 pub record Keeps (race : Terms) (p : Playing) (left : List Control) : Type 0 where
   pub legal : Legal p.past
   pub ordered : Races race.run race.lines p.past
   pub whole : p.trimmed ≡ 0
-  pub settings : set_in p.past ++ left ≡ race.settings
+  pub settings : set_in p.past ++ left ≡ settings_of race.lines
+  pub first : SetsFirst (length (settings_first race.lines)) p.past
   pub limits : list_all sets_limit left ≡ true
 
 -- Holds of the work that is out under number c: it is the house's or a connection's, whose wire may be put back.

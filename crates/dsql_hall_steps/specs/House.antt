@@ -17,8 +17,9 @@ use Rattle.dsql_player.specs.declared.halt.Halt.TheVariants.{Memory}
 use Rattle.dsql_player.specs.Playing.{IsAt, IsReady, Playing}
 use Rattle.dsql_hall_bonds.specs.Work.{Work}
 use Rattle.dsql_hall_bonds.specs.Unpicked.{no_permit}
-use Rattle.dsql_hall_steps.specs.Halls.{InHall, Terms, house}
+use Rattle.dsql_hall_steps.specs.Halls.{InHall, house}
 use Rattle.dsql_hall_steps.specs.Racing.{resting}
+use Rattle.dsql_hall_steps.specs.Terms.{Terms}
 
 -- Holds of the work of the house's own bond. No connection has its number, so nothing was heard there, and no fault was
 -- planned.

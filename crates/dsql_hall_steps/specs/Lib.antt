@@ -10,6 +10,7 @@ pub use Rattle.dsql_player.specs as player
 pub use Rattle.dsql_hall_bonds.specs as hall_bonds
 pub mod Racing
 pub mod Limits
+pub mod Terms
 pub mod Errands
 pub mod Halls
 pub mod Openings

@@ -62,18 +62,12 @@ impl<K: Race, W: Wire> Hall<K, W> {
         requires none { keeper ≡ [] }
         requires ready { IsReady player }
         requires running { has_ended player.past ≡ false }
-        requires at { IsAt (resting K.lines player) player }
-        requires keeps { Keeps (record {
-          run = K.run;
-          lines = K.lines;
-          settings = K.settings;
-          telling = K.telling;
-          made = K.made;
-        }) player settings.items }
-        requires wires { WiresFit W.told K.telling player.past wires }
-        requires plans { PlansFit W.told K.made player.past wires }
+        requires at { IsAt (resting K.terms.lines player) player }
+        requires keeps { Keeps K.terms player settings.items }
+        requires wires { WiresFit W.told K.terms.telling player.past wires }
+        requires plans { PlansFit W.told K.terms.made player.past wires }
         requires silent { journal player.past house ≡ [] }
-        ensures own { IsOwn K.made result.1 }
+        ensures own { IsOwn K.terms.made result.1 }
         ensures past { result.1.past ≡ player.past }
         ensures hall { result.0 ≡ first_hall player wires settings.items }
     {
@@ -95,23 +89,11 @@ impl<K: Race, W: Wire> Hall<K, W> {
     /// out, the wires that are left fit the history. Work that is still out stops the run for want of memory.
     pub fn close(self, cell: &Cell, own: Bond<K>) -> Closed<W>
         requires cell { cell.now ≡ K.cell }
-        requires own { IsOwn K.made own }
+        requires own { IsOwn K.terms.made own }
         ensures parts { HasParts self result.player result.wires result.settings.items result.stopped }
-        ensures keeps { Keeps (record {
-          run = K.run;
-          lines = K.lines;
-          settings = K.settings;
-          telling = K.telling;
-          made = K.made;
-        }) result.player result.settings.items }
+        ensures keeps { Keeps K.terms result.player result.settings.items }
         ensures full { result.stopped ≡ Some Halt.Full → most_events ≤ length result.player.past }
-        ensures well { result.stopped ≡ None → IsClosed W.told (record {
-          run = K.run;
-          lines = K.lines;
-          settings = K.settings;
-          telling = K.telling;
-          made = K.made;
-        }) own.past result.player result.wires }
+        ensures well { result.stopped ≡ None → IsClosed W.told K.terms own.past result.player result.wires }
     {
         let Hall {
             player,

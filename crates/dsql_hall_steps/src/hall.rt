@@ -43,13 +43,7 @@ impl<K: Race, W: Wire> Model for Hall<K, W> {
       resting = h.resting;
     } };
 
-    ghost invariant = { λ h. IsHall W.told (record {
-      run = K.run;
-      lines = K.lines;
-      settings = K.settings;
-      telling = K.telling;
-      made = K.made;
-    }) (record {
+    ghost invariant = { λ h. IsHall W.told K.terms (record {
       player = h.player;
       slots = h.wires;
       out = h.keeper;

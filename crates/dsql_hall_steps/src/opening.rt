@@ -27,7 +27,7 @@ impl<K: Race> Model for Opening<K> {
 
     ghost view = { λ o. o.bond };
 
-    ghost invariant = { λ o. (o.permit ≡ o.bond.permit) × IsOpening K.made o.bond };
+    ghost invariant = { λ o. (o.permit ≡ o.bond.permit) × IsOpening K.terms.made o.bond };
 }
 
 /// What came of a request for a connection: the entry that the fleet's answer made, and the wire, unless the driver
@@ -45,7 +45,7 @@ impl<K: Race, W: Wire> Model for Opened<K, W> {
 
     ghost view = { λ o. record { work = o.bond; entry = o.heard; wire = o.wire } };
 
-    ghost invariant = { λ o. IsFound W.told K.telling K.made
+    ghost invariant = { λ o. IsFound W.told K.terms.telling K.terms.made
         (record { work = o.bond; entry = o.heard; wire = o.wire }) };
 }
 
@@ -64,7 +64,7 @@ impl<K: Race> Model for Unopened<K> {
 
     ghost view = { λ u. u.bond };
 
-    ghost invariant = { λ u. (u.conn ≡ u.bond.conn) × IsOpening K.made u.bond };
+    ghost invariant = { λ u. (u.conn ≡ u.bond.conn) × IsOpening K.terms.made u.bond };
 }
 
 impl<K: Race> Opening<K> {
@@ -74,9 +74,9 @@ impl<K: Race> Opening<K> {
         alloc: Global,
         fleet: &mut F,
     ) -> Result<Opened<K, F::Wire>, Unopened<K>>
-        requires telling { is_some (F.told fleet.old) ≡ K.telling }
+        requires telling { is_some (F.told fleet.old) ≡ K.terms.telling }
         ensures work { IfOk result (λ opened. opened.work ≡ self) }
-        ensures found { IfOk result (IsFound F.Wire.told K.telling K.made) }
+        ensures found { IfOk result (IsFound F.Wire.told K.terms.telling K.terms.made) }
         ensures asked { IfOk result (λ opened. F.told fleet.new
             ≡ connected_after opened.entry.conn opened.entry.answer (F.told fleet.old)) }
         ensures unopened { IfErr result (λ unopened. unopened ≡ self) }

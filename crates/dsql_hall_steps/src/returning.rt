@@ -66,12 +66,12 @@ impl<K: Race, W: Wire> Hall<K, W> {
         back: Back<K, W>,
     ) -> (Bond<K>, Option<ThinWire<W>>)
         requires cell { cell.now ≡ K.cell }
-        requires own { IsOwn K.made own }
+        requires own { IsOwn K.terms.made own }
         requires shut { IsShutting back.work }
-        ensures own { IsOwn K.made result.0 }
+        ensures own { IsOwn K.terms.made result.0 }
         ensures wire { self.new.stopped ≡ None → result.1 ≡ Some back.wire }
         ensures told { self.new.stopped ≡ None
-            → TellsShut W.told K.telling K.made own.past result.0.past back.wire }
+            → TellsShut W.told K.terms.telling K.terms.made own.past result.0.past back.wire }
         ensures stays { self.new.stopped ≢ None → (result.0 ≡ own) × (result.1 ≡ None) }
         ensures heard { self.new.stopped ≡ None
             → TakesChoreIn back.entry (struck_off back.work self.old) self.new result.0 }
@@ -109,9 +109,9 @@ impl<K: Race, W: Wire> Hall<K, W> {
     /// it was.
     pub fn hear_opening(&mut self, cell: &Cell, own: Bond<K>, opened: Opened<K, W>) -> Bond<K>
         requires cell { cell.now ≡ K.cell }
-        requires own { IsOwn K.made own }
-        ensures own { IsOwn K.made result }
-        ensures told { self.new.stopped ≡ None → TellsConnect K.made own.past result.past opened.entry }
+        requires own { IsOwn K.terms.made own }
+        ensures own { IsOwn K.terms.made result }
+        ensures told { self.new.stopped ≡ None → TellsConnect K.terms.made own.past result.past opened.entry }
         ensures stays { self.new.stopped ≢ None → result ≡ own }
         ensures slot { FillsSlot opened.work.conn opened.wire self.old.slots self.new.slots }
         ensures heard { self.new.stopped ≡ None → TakesChoreIn opened.entry

@@ -1,5 +1,5 @@
 -- The lines of a race that is over. The argument goes through what stopped it.
-use Rattle.std.proofs.Common.{◌≡◌, ◌≤◌, true, false, List, [], ◌∷◌, ◌++◌, Option, length, refl, ap, sym, subst, ◌∙◌, append_assoc}
+use Rattle.std.proofs.Common.{◌≡◌, ◌≤◌, ℕ, true, false, List, [], ◌∷◌, ◌++◌, Option, length, refl, ap, sym, subst, ◌∙◌, append_assoc, arith}
 use Rattle.std.specs.Prelude.{Result, Ok, Err, IfErr, OnOk, option_map, reverse}
 use Rattle.std.proofs.lemmas.List.{append-nil, reverse-reverse}
 use Rattle.dsql_run_outcome.specs.driver.declared.caps.Caps.{Caps}
@@ -14,9 +14,9 @@ use Rattle.dsql_run_outcome.specs.history.Rules.House.{is_quiet}
 use Rattle.dsql_run_outcome.specs.follows.declared.line.Line.{Line}
 use Rattle.dsql_run_outcome.specs.follows.Moments.{Moment, at_end, just_begun}
 use Rattle.dsql_run_outcome.specs.laws_steps.Groups.{most_events}
-use Rattle.dsql_run_outcome.specs.hall.Raced.{RacesInPart, RacesThrough, SetsSome, plans_first, settings_of}
+use Rattle.dsql_run_outcome.specs.hall.Raced.{RacesInPart, RacesThrough, SetsSome, plans_first}
 use Rattle.dsql_run_outcome.specs.hall.laws_ends.Over.{IsOver as HasNothingLeft}
-use Rattle.dsql_run_outcome.specs.hall.hall_steps.Limits.{set_in}
+use Rattle.dsql_run_outcome.specs.hall.hall_steps.Limits.{SetsFirst, are_set_first, set_in, settings_first, settings_of}
 use Rattle.dsql_run_outcome.specs.hall.hall_steps.Racing.{Races, resting}
 use Rattle.dsql_run_outcome.specs.player.declared.halt.Halt.{Halt}
 use Rattle.dsql_run_outcome.specs.player.declared.halt.Halt.TheVariants as halts
@@ -50,18 +50,38 @@ sets_more limits more past s = record { left = s.left ++ more; whole = sym (appe
 
 -- As a run has begun, no line was entered, and no limit was set.
 
+none_before : (many : ℕ) (caps : Caps) (past : List Event) → past ≡ Run 1 caps ∷ [] → are_set_first many past ≡ true
+none_before many caps past begun = ap (are_set_first many) begun
+
 pub first_past : (caps : Caps) (script : List Line) (past : List Event) → past ≡ Run 1 caps ∷ [] → Races (Run 1 caps) script past
 first_past caps script past begun = subst (Races (Run 1 caps) script) (sym begun) (first_races (Run 1 caps) script)
 
 pub none_raced : (caps : Caps) (script : List Line) (past : List Event) → past ≡ Run 1 caps ∷ [] → RacesInPart (Run 1 caps) script past
-none_raced caps script past begun = record { some = first_past caps script past begun; settings = record { left = settings_of script; whole = ap (λ h. set_in h ++ settings_of script) begun } }
+none_raced caps script past begun = record {
+  some = first_past caps script past begun;
+  settings = record { left = settings_of script; whole = ap (λ h. set_in h ++ settings_of script) begun };
+  first = none_before (length (settings_first script)) caps past begun;
+}
 
 -- A race that had to stop as its first limits were set.
 pub early_part : (caps : Caps) (script : List Line) (old new : List Event) (front more : List Control) → old ≡ Run 1 caps ∷ [] → front ++ more ≡ settings_of script → ((run : Event) → Races run script old → Races run script new)
-    → SetsSome (set_in old ++ front) new → RacesInPart (Run 1 caps) script new
-early_part caps script old new front more begun all races some =
+    → SetsSome (set_in old ++ front) new → ((many : ℕ) → are_set_first many old ≡ true → are_set_first many new ≡ true) → RacesInPart (Run 1 caps) script new
+early_part caps script old new front more begun all races some before =
     let first : SetsSome front new = subst (λ (h : List Event). SetsSome (set_in h ++ front) new) begun some in
-    record { some = races (Run 1 caps) (first_past caps script old begun); settings = subst (λ settings. SetsSome settings new) all (sets_more front more new first) }
+    let many = length (settings_first script) in
+    record {
+      some = races (Run 1 caps) (first_past caps script old begun);
+      settings = subst (λ settings. SetsSome settings new) all (sets_more front more new first);
+      first = before many (none_before many caps old begun);
+    }
+
+-- After the limits that stand first were set, they were set before each call.
+pub first_set : (caps : Caps) (script : List Line) (old new : List Event) (front : List Control) → old ≡ Run 1 caps ∷ [] → front ≡ settings_first script → set_in new ≡ set_in old ++ front
+    → ((many : ℕ) → are_set_first many old ≡ true → are_set_first many new ≡ true) → SetsFirst (length (settings_first script)) new
+first_set caps script old new front begun are set before =
+    let many = length (settings_first script) in
+    let all : length (set_in new) ≡ many = ap length (set ∙ (ap (λ (h : List Event). set_in h ++ front) begun ∙ are)) in
+    record { set = omega (arith, all); before = before many (none_before many caps old begun) }
 
 -- As long as nothing was heard, the fleet has recorded nothing.
 pub told_still : (made : List Made) (caps : Caps) (first before : Option FleetTold) (old new : List Event) → old ≡ Run 1 caps ∷ [] → HearsNothing old new → before ≡ with_told made first (Run 1 caps ∷ []) → before ≡ with_told made first new

@@ -7,7 +7,8 @@ ghost use Rattle.dsql_run_outcome.specs.follows.Labels.{times_in};
 ghost use Rattle.dsql_run_outcome.specs.follows.Moments.{just_begun};
 ghost use Rattle.dsql_run_outcome.specs.Racing.{LinesRaced};
 ghost use Rattle.dsql_run_outcome.specs.Runs.{ran_out, stop_of};
-ghost use Rattle.dsql_run_outcome.specs.hall.Raced.{plans_first, settings_of};
+ghost use Rattle.dsql_run_outcome.specs.hall.Raced.{plans_first};
+ghost use Rattle.dsql_run_outcome.specs.hall.hall_steps.Limits.{settings_first, settings_of};
 ghost use Rattle.dsql_run_outcome.specs.hall.hall_steps.Racing.{resting};
 ghost use Rattle.dsql_run_outcome.specs.player.Naming.{times};
 ghost use Rattle.dsql_run_outcome.specs.player.Playing.{IsAt, IsReady};
@@ -133,6 +134,7 @@ fn race_kept<F: Fleet, C: Clock, G: Gate, R: Threads + Wait + Sync>(
     requires at { IsAt (resting (reverse lines.items) player) player }
     requires whole { player.trimmed ≡ 0 }
     requires limits { limits.first.items ++ limits.later.items ≡ settings_of (reverse lines.items) }
+    requires first { limits.first.items ≡ settings_first (reverse lines.items) }
     ensures raced { (first : Option FleetTold)
         → F.told fleet.old ≡ with_told (plans_first (reverse lines.items)) first (Run 1 (F.ability fleet.old) ∷ [])
         → LinesRaced (stop_of result.stopped) (Run 1 (F.ability fleet.old)) (reverse lines.items) result.player.past

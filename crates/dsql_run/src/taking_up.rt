@@ -1,12 +1,13 @@
 //! Takes up the lines of a race before its clients go on: keeps their calls, plans faults, and collects limits.
-ghost use Rattle.std.specs.Prelude.{◌≡◌, ◌≤◌, ◌+◌, ◌∷◌, ◌++◌, ℕ, List, [], Option, true, length, sum_by, IfOk, IfErr, OnOk};
+ghost use Rattle.std.specs.Prelude.{◌≡◌, ◌≤◌, ◌+◌, ◌∷◌, ◌++◌, ℕ, List, [], Option, true, length, sum_by, take, IfOk, IfErr, OnOk};
 ghost use Rattle.std.specs.List.{list_all};
 ghost use Rattle.dsql_run_outcome.specs.driver.declared.caps.Caps.{Caps};
 ghost use Rattle.dsql_run_outcome.specs.driver.Wires.{FleetTold};
 ghost use Rattle.dsql_run_outcome.specs.history.declared.event.Event.TheVariants.{Run};
 ghost use Rattle.dsql_run_outcome.specs.follows.Labels.{times_in};
 ghost use Rattle.dsql_run_outcome.specs.follows.Moments.{Moment, met};
-ghost use Rattle.dsql_run_outcome.specs.hall.Raced.{limit_of, plans_first, settings_of};
+ghost use Rattle.dsql_run_outcome.specs.hall.Raced.{plans_first};
+ghost use Rattle.dsql_run_outcome.specs.hall.hall_steps.Limits.{limit_of, makes_call, settings_first, settings_of};
 ghost use Rattle.dsql_run_outcome.specs.player.Naming.{MakeOnce, times};
 ghost use Rattle.dsql_run_outcome.specs.player.Playing.{IsAt, IsReady};
 ghost use Rattle.dsql_run_outcome.specs.player_wires.Told.{SameAbility, with_told};
@@ -28,7 +29,8 @@ pub(crate) struct Limits {
 
 /// Returns the limits that these lines set.
 pub(crate) fn limits_of(alloc: Global, lines: &[Line]) -> Result<Limits, Memory>
-    ensures { IfOk result (λ limits. limits.first.items ++ limits.later.items ≡ settings_of lines.now) }
+    ensures all { IfOk result (λ limits. limits.first.items ++ limits.later.items ≡ settings_of lines.now) }
+    ensures first { IfOk result (λ limits. limits.first.items ≡ settings_first lines.now) }
 {
     let at = first_call(lines);
     Ok(Limits {
@@ -40,14 +42,22 @@ pub(crate) fn limits_of(alloc: Global, lines: &[Line]) -> Result<Limits, Memory>
 
 /// Returns the place of the first line of a client, or the number of lines if there is none.
 fn first_call(lines: &[Line]) -> usize
-    ensures { result ≤ length lines.now }
+    ensures within { result ≤ length lines.now }
+    ensures before { settings_of (take result lines.now) ≡ settings_first lines.now }
 {
     for (place, line) in lines.iter().enumerate() {
-        if matches!(line, Line::Client { .. }) {
+        if makes_call(line) {
             return place;
         }
     }
     lines.len()
+}
+
+/// Is true if the line makes a call of a client.
+fn makes_call(line: &Line) -> bool
+    ensures { result ≡ makes_call line.now }
+{
+    matches!(line, Line::Client { .. })
 }
 
 /// Returns the limits that these lines set, in one list.

@@ -25,9 +25,9 @@ pub returns-in-None-clause-ends : goal.returns-in-None-clause-ends
 returns-in-None-clause-ends g c =
     let through = c.run_through-stopped.ensures in
     finished
-    (record { run = g.K.Race.run; lines = g.K.Race.lines; settings = g.K.Race.settings; telling = g.K.Race.telling; made = g.K.Race.made })
-    (reverse c.args.lines.now.items) c.close-player.result.settings.items c.run_through-stopped.result c.close-player.result.player c.run_through-stopped.new.player c.requires.lines c.close-player.ensures.keeps c.requires.settings through.all
-    through.some through.set through.some_set through.last through.over through.ended through.quiet through.legal through.full through.trimmed
+    g.K.Race.terms
+    (reverse c.args.lines.now.items) c.close-player.result.settings.items c.run_through-stopped.result c.close-player.result.player c.run_through-stopped.new.player c.requires.lines c.close-player.ensures.keeps through.all
+    through.some through.set through.some_set through.first through.last through.over through.ended through.quiet through.legal through.full through.trimmed
 
 pub returns-in-None-clause-uncut : goal.returns-in-None-clause-uncut
 returns-in-None-clause-uncut g c = ok_so c.run_through-stopped.result (c.args.cut ≡ false) c.if-not-cut.true
@@ -37,7 +37,7 @@ returns-in-None-clause-told g c =
     let closed = c.close-player.ensures.well c.in-None.is in
     on_ok2 c.run_through-stopped.result
     (λ empty tells first was. c.retire_all.ensures.unasked empty
-    ∙ tells_closed g.F.Wire.Wire.told g.K.Race.made (g.F.Fleet.told c.args.fleet.now) (g.F.Fleet.told c.run_through-stopped.new.fleet) first c.args.own.past c.close-player.result.player.past c.run_through-stopped.new.player.past
+    ∙ tells_closed g.F.Wire.Wire.told g.K.Race.terms.made (g.F.Fleet.told c.args.fleet.now) (g.F.Fleet.told c.run_through-stopped.new.fleet) first c.args.own.past c.close-player.result.player.past c.run_through-stopped.new.player.past
     c.close-player.result.wires c.run_through-stopped.new.wires closed.plans closed.told tells was)
     c.run_through-stopped.ensures.empty c.run_through-stopped.ensures.told
 
@@ -45,6 +45,6 @@ pub returns-in_default-clause-ends : goal.returns-in_default-clause-ends
 returns-in_default-clause-ends g c =
     let p = c.close-player.result.player in
     halted
-    (record { run = g.K.Race.run; lines = g.K.Race.lines; settings = g.K.Race.settings; telling = g.K.Race.telling; made = g.K.Race.made })
-    c.unwrap_or.result c.close-player.result.settings.items p c.close-player.ensures.keeps c.requires.settings
+    g.K.Race.terms
+    c.unwrap_or.result c.close-player.result.settings.items p c.close-player.ensures.keeps
     (λ is. full_or c.close-player.result.stopped (length p.past) c.close-player.ensures.full (sym c.unwrap_or.ensures ∙ is))

@@ -4,7 +4,7 @@ use Rattle.dsql_hall_steps.specs.Racing.{resting}
 use Rattle.dsql_hall_steps.proofs.Ending.{end_races}
 use Rattle.dsql_hall_steps.proofs.player.Keeping.{run_after}
 use Rattle.dsql_hall.proofs.Last.{ends_at_last}
-use Rattle.dsql_hall.proofs.Setting.{end_sets, ended_races, ended_settings}
+use Rattle.dsql_hall.proofs.Setting.{end_sets, ended_first, ended_races, ended_settings}
 use Rattle.dsql_hall.proofs.ending.run_through.Goals as goal
 
 pub returns-clause-all : goal.returns-clause-all
@@ -31,6 +31,14 @@ pub returns-clause-some_set : goal.returns-clause-some_set
 returns-clause-some_set g c =
     let script = reverse c.args.lines.now.items in
     ended_settings c.carry_end.result script c.set_limits.new.player c.carry_end.new.player.past c.in_ok-set_limits.ensures.at c.carry_end.ensures.carries c.carry_end.ensures.stops _ c.set_limits.ensures.sets.settings
+
+pub returns-in_err-set_limits-clause-first : goal.returns-in_err-set_limits-clause-first
+returns-in_err-set_limits-clause-first g c = λ many first. c.set_limits.ensures.sets.first many first.before
+
+pub returns-clause-first : goal.returns-clause-first
+returns-clause-first g c =
+    ended_first c.carry_end.result (reverse c.args.lines.now.items) c.args.player.now c.set_limits.new.player c.carry_end.new.player.past c.set_limits.ensures.sets.grows c.in_ok-set_limits.ensures.at c.carry_end.ensures.carries
+    c.carry_end.ensures.stops
 
 pub returns-clause-last : goal.returns-clause-last
 returns-clause-last g c =

@@ -11,19 +11,20 @@ open-hall-requires-clause-keeps g c = λ κs h. record {
   ordered = c.requires.races;
   whole = c.requires.whole;
   settings = c.requires.limits;
-  limits = left_limit g.K.Race.lines (set_in c.args.player.past) c.args.settings.items (c.requires.limits ∙ c.requires.settings);
+  first = c.requires.first;
+  limits = left_limit g.K.Race.terms.lines (set_in c.args.player.past) c.args.settings.items c.requires.limits;
 }
 
 pub open-hall-requires-clause-plans : goal.open-hall-requires-clause-plans
 open-hall-requires-clause-plans g c = λ κs h.
-    rw c.requires.made (none_fit g.F.Wire.Wire.told g.K.Race.lines c.args.player.past c.new.result c.new.ensures.empty)
+    rw c.requires.made (none_fit g.F.Wire.Wire.told g.K.Race.terms.lines c.args.player.past c.new.result c.new.ensures.empty)
 
 pub end_race-requires-clause-telling : goal.end_race-requires-clause-telling
 end_race-requires-clause-telling g c = λ κs h uncut. (c.run_threads-own.ensures.keeps.goes uncut).telling ∙ sym c.requires.telling
 
 pub returns-clause-told : goal.returns-clause-told
 returns-clause-told g c =
-    told_through g.F.Fleet g.K.Race.made c.end_race.result.stopped c.args.fleet.now c.run_threads-own.result.fleet.now c.end_race.new.fleet _ c.args.player.past c.open-hall.result.1.past c.run_threads-own.result.own.past
+    told_through g.F.Fleet g.K.Race.terms.made c.end_race.result.stopped c.args.fleet.now c.run_threads-own.result.fleet.now c.end_race.new.fleet _ c.args.player.past c.open-hall.result.1.past c.run_threads-own.result.own.past
     c.end_race.result.player.past c.run_threads-own.result.cut c.run_threads-own.ensures.keeps.goes c.end_race.ensures.uncut c.end_race.ensures.told c.open-hall.ensures.past (search rules)
 
 pub returns-clause-able : goal.returns-clause-able

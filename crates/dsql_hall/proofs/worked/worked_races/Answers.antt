@@ -15,6 +15,9 @@ returns g = λ caps. record {
   at_once = refl;
   too_soon = refl;
   limit_after = refl;
+  first = refl;
+  limited = refl;
+  unlimited = refl;
   limits = refl;
   plans = refl;
 }

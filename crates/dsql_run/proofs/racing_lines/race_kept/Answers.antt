@@ -7,7 +7,7 @@ use Rattle.dsql_run_outcome.specs.history.Readers.Journals.{journal}
 use Rattle.dsql_run_outcome.specs.hall.Raced.{plans_first}
 use Rattle.dsql_run_outcome.specs.hall.hall_steps.Limits.{set_in}
 use Rattle.dsql_run_outcome.proofs.hall.Setting.{front_limit}
-use Rattle.dsql_run.proofs.Raced.{early_part, first_past, halted_race, race_over, told_still}
+use Rattle.dsql_run.proofs.Raced.{early_part, first_past, first_set, halted_race, race_over, told_still}
 use Rattle.dsql_run.proofs.racing_lines.race_kept.Goals as goal
 
 pub set_limits-requires-clause-limits : goal.set_limits-requires-clause-limits
@@ -31,6 +31,11 @@ pub race-requires-clause-limits : goal.race-requires-clause-limits
 race-requires-clause-limits g c κs within =
     ap (λ done. done ++ c.args.limits.later.items) (c.in-Ok.ensures.set ∙ ap (λ (past : List Event). set_in past ++ c.args.limits.first.items) c.requires.begun) ∙ c.requires.limits
 
+pub race-requires-clause-first : goal.race-requires-clause-first
+race-requires-clause-first g c κs within =
+    let caps = g.F.Fleet.ability c.args.fleet.now in
+    first_set caps (reverse c.args.lines.items) c.args.player.past c.set_limits.new.player.past c.args.limits.first.items c.requires.begun c.requires.first c.in-Ok.ensures.set c.set_limits.ensures.sets.first
+
 pub returns-in-Ok-clause-raced : goal.returns-in-Ok-clause-raced
 returns-in-Ok-clause-raced g c = λ first was.
     let caps = g.F.Fleet.ability c.args.fleet.now in
@@ -45,6 +50,7 @@ returns-in-Err-clause-raced g c = λ first was.
     let caps = g.F.Fleet.ability c.args.fleet.now in
     let script = reverse c.args.lines.items in
     halted_race c.in-Err.halt (Run 1 caps) script c.set_limits.new.player.past first (g.F.Fleet.told c.args.fleet.now)
-    (early_part caps script c.args.player.past c.set_limits.new.player.past c.args.limits.first.items c.args.limits.later.items c.requires.begun c.requires.limits c.set_limits.ensures.sets.races c.set_limits.ensures.sets.settings)
+    (early_part caps script c.args.player.past c.set_limits.new.player.past c.args.limits.first.items c.args.limits.later.items c.requires.begun c.requires.limits c.set_limits.ensures.sets.races
+    c.set_limits.ensures.sets.settings c.set_limits.ensures.sets.first)
     c.set_limits.ensures.sets.legal
     (λ is. c.in-Err.ensures.full cc)

@@ -2,7 +2,8 @@ use Rattle.std.proofs.Common.{◌≡◌, ◌∷◌, [], reverse, sym, subst, ap,
 use Rattle.dsql_run_outcome.specs.driver.declared.caps.Caps.{Caps}
 use Rattle.dsql_run_outcome.specs.history.declared.event.Event.TheVariants.{Run}
 use Rattle.dsql_run_outcome.specs.follows.Moments.{just_begun}
-use Rattle.dsql_run_outcome.specs.hall.Raced.{plans_first, settings_of}
+use Rattle.dsql_run_outcome.specs.hall.Raced.{plans_first}
+use Rattle.dsql_run_outcome.specs.hall.hall_steps.Limits.{settings_first, settings_of}
 use Rattle.dsql_run_outcome.specs.player.declared.halt.Halt.TheVariants as halts
 use Rattle.dsql_run_outcome.specs.player_wires.Told.{with_told}
 use Rattle.dsql_run_outcome.specs.Racing.{LinesRaced, met_all}
@@ -48,7 +49,13 @@ pub race_kept-requires-clause-limits : goal.race_kept-requires-clause-limits
 race_kept-requires-clause-limits g c κs within =
     let script = c.args.lines.items in
     let read : reverse c.then_all-script.result.items ≡ script = all_read script c.deref-2.result.now c.new.result.items c.then_all-script.result.items c.then_all-script.ensures c.deref-2.ensures.value c.new.ensures in
-    c.in-Ok.ensures ∙ (ap settings_of c.deref.ensures.value ∙ ap settings_of (sym read))
+    c.in-Ok.ensures.all ∙ (ap settings_of c.deref.ensures.value ∙ ap settings_of (sym read))
+
+pub race_kept-requires-clause-first : goal.race_kept-requires-clause-first
+race_kept-requires-clause-first g c κs within =
+    let script = c.args.lines.items in
+    let read : reverse c.then_all-script.result.items ≡ script = all_read script c.deref-2.result.now c.new.result.items c.then_all-script.result.items c.then_all-script.ensures c.deref-2.ensures.value c.new.ensures in
+    c.in-Ok.ensures.first ∙ (ap settings_first c.deref.ensures.value ∙ ap settings_first (sym read))
 
 pub returns-in-Ok-take_up-clause-raced : goal.returns-in-Ok-take_up-clause-raced
 returns-in-Ok-take_up-clause-raced g c =

@@ -1,5 +1,5 @@
 use Rattle.std.proofs.Common.{◌≡◌, take}
-use Rattle.dsql_run_outcome.specs.hall.Raced.{settings_of}
+use Rattle.dsql_run_outcome.specs.hall.hall_steps.Limits.{settings_of}
 use Rattle.dsql_run.proofs.taking_up.limits_in.Given as goal
 
 abbrev pub invariant-loop-line : goal.invariant-loop-line

@@ -64,4 +64,4 @@ returns-in-Ok-clause-told g c = λ runs.
       course = c.in-Ok.ensures.course;
     })
     _ (ap (find house) (sym c.untie.ensures.now) ∙ c.renew.ensures.was_out) _ c.renew.ensures.bond in
-    subst (λ o. TellsConnect g.K.Race.made c.args.own.past c.renew.result.past o.entry) c.opened.view_is (opening_tells _ _ _ _ _ _ _ c.opened.invariant goes)
+    subst (λ o. TellsConnect g.K.Race.terms.made c.args.own.past c.renew.result.past o.entry) c.opened.view_is (opening_tells _ _ _ _ _ _ _ c.opened.invariant goes)

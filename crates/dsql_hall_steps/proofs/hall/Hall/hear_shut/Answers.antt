@@ -75,7 +75,7 @@ returns-in-Ok-clause-told g c = λ runs.
     })
     _ (ap (find house) (sym c.untie.ensures.now) ∙ c.renew-own.ensures.was_out) _ c.renew-own.ensures.bond in
     let shuts = subst (λ b. IsShutting b.work) (sym c.back.view_is) c.requires.shut in
-    subst (λ b. TellsShut g.W.Wire.told g.K.Race.telling g.K.Race.made c.args.own.past c.renew-own.result.past b.wire) c.back.view_is (shut_tells _ _ _ _ _ _ c.back.invariant shuts goes)
+    subst (λ b. TellsShut g.W.Wire.told g.K.Race.terms.telling g.K.Race.terms.made c.args.own.past c.renew-own.result.past b.wire) c.back.view_is (shut_tells _ _ _ _ _ _ c.back.invariant shuts goes)
 
 pub returns-then-is_some-clause-dropped : goal.returns-then-is_some-clause-dropped
 returns-then-is_some-clause-dropped g c = λ _.
