@@ -2,6 +2,7 @@
 use Rattle.std.specs.Prelude.{ℕ, ◌≡◌, ◌≢◌, ◌<◌, ◌⊎◌, ◌||◌, ◌+◌, ◌∷◌, true, false, length, set, None, Some, is_some}
 use Rattle.dsql_engine_laws.specs.journal.Readers.{is_empty}
 use Rattle.dsql_engine_laws.specs.history.Readers.Calls.{is_busy}
+use Rattle.dsql_engine_laws.specs.history.Readers.Clients.{made_by}
 use Rattle.dsql_player_wires.specs.Seats.{seat}
 use Rattle.dsql_player_wires.specs.WiresFit.{slot}
 use Rattle.dsql_hall_steps.specs.declared.step.Step.{Step}
@@ -21,10 +22,12 @@ pub record GoesOut {W : Type 0} (me : ℕ) (it : Sent W) (before after : InHall 
     away = before.away + 1;
   }
 
--- Holds if the client took a step. The history shows it, or the client has leave for its driver call.
+-- Holds if the client took a step. The history shows it, or the client has leave for its driver call. No other client
+-- made a call.
 pub record StepsOnce {W : Type 0} (me : ℕ) (before after : InHall W) : Type 0 where
   pub runs : after.stopped ≡ None
   pub only : after ≡ record before { player = after.player }
+  pub mine : (other : ℕ) → other ≢ me → made_by after.player.past other ≡ made_by before.player.past other
   pub step : (length before.player.past < length after.player.past)
       ⊎ (is_some (seat after.player.seats me).permit ≡ true)
 

@@ -1,7 +1,7 @@
 use Rattle.std.proofs.Common.{ap, ◌∙◌}
 use Rattle.dsql_engine_laws.specs.history.Readers.Calls.{is_busy}
 use Rattle.dsql_hall_steps.proofs.Moving.{entered_on}
-use Rattle.dsql_hall_steps.proofs.Stepped.{shown}
+use Rattle.dsql_hall_steps.proofs.Stepped.{enters_alone, shown}
 use Rattle.dsql_hall_steps.proofs.hall.Hall.enter.Goals as goal
 
 pub invariant_of-self-in-Ok : goal.invariant_of-self-in-Ok
@@ -20,4 +20,7 @@ invariant_of-self-in-Ok g c =
     c.in-Ok.ensures.enters
 
 pub returns-in-Ok : goal.returns-in-Ok
-returns-in-Ok g c = record { next = shown _ _ _ _ c.self.view_is c.requires.runs c.in-Ok.ensures.grows }
+returns-in-Ok g c =
+    let on = c.self.invariant.well (ap (λ h. h.stopped) c.self.view_is ∙ c.requires.runs) in
+    let alone = enters_alone c.args.client _ _ _ on.at c.in-Ok.ensures.enters c.in-Ok.ensures.act.legal.lawful in
+    record { next = shown _ _ _ _ c.self.view_is c.requires.runs alone c.in-Ok.ensures.grows }

@@ -3,7 +3,7 @@ use Rattle.dsql_engine_laws.specs.history.Readers.Clients.{call_of}
 use Rattle.dsql_engine_laws.specs.laws_ends.Over.{may_move}
 use Rattle.dsql_player_wires.specs.Seats.{seat}
 use Rattle.dsql_hall_steps.proofs.Moving.{woke_on}
-use Rattle.dsql_hall_steps.proofs.Stepped.{woken}
+use Rattle.dsql_hall_steps.proofs.Stepped.{wakes_alone, woken}
 use Rattle.dsql_hall_steps.proofs.hall.Hall.wake.Goals as goal
 
 pub wake-requires-clause-moves : goal.wake-requires-clause-moves
@@ -27,4 +27,7 @@ invariant_of-self-in-Ok g c =
     c.in-Ok.ensures.wakes
 
 pub returns-in-Ok : goal.returns-in-Ok
-returns-in-Ok g c = record { next = woken _ _ _ _ _ c.self.view_is c.requires.runs c.in-Ok.ensures.grows c.in-Ok.ensures.leave }
+returns-in-Ok g c =
+    let on = c.self.invariant.well (ap (λ h. h.stopped) c.self.view_is ∙ c.requires.runs) in
+    let alone = wakes_alone _ c.args.client _ _ _ _ on.at c.in-Ok.ensures.wakes c.in-Ok.ensures.act.legal.lawful in
+    record { next = woken _ _ _ _ _ c.self.view_is c.requires.runs alone c.in-Ok.ensures.grows c.in-Ok.ensures.leave }
