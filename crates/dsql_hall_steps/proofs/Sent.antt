@@ -22,8 +22,9 @@ use Rattle.dsql_player_wires.proofs.Wiring.{some_wired, still_some}
 use Rattle.dsql_player.specs.Playing.{Playing}
 use Rattle.dsql_player.proofs.Answering.{HasLeave, leave_at}
 use Rattle.dsql_hall_bonds.specs.Work.{Work, find}
-use Rattle.dsql_hall_steps.specs.Errands.{IsBack, IsErrand, IsUnheard, IsWireFor, Sent}
-use Rattle.dsql_hall_steps.specs.Halls.{GoesOn, InHall, IsAtHome, IsHall, IsOut, SlotFits, Terms, house}
+use Rattle.dsql_hall_steps.specs.Errands.{IsBack, IsErrand, IsUnheard, IsWireFor, LacksAnswer, Sent}
+use Rattle.dsql_hall_steps.specs.Halls.{GoesOn, InHall, IsAtHome, IsHall, IsOut, SlotFits, house}
+use Rattle.dsql_hall_steps.specs.Terms.{Terms}
 use Rattle.dsql_hall_steps.proofs.Carrying.{none_is_out, sent_back, sent_fits, sent_house, sent_work, slot_set}
 
 -- A slot that has a wire is one of the list.
@@ -151,3 +152,10 @@ module _ {W : Type 0} (heard : W → Option WireTold) (telling : Bool) (made : L
   pub lacking : (call : DriverCall) → ((it.wire.spare ≡ 0) × SameHeard heard it.wire wire) ⊎ Wants heard call it.wire wire → IsUnheard (record { work = it.work; client = it.client; wire = wire })
   lacking call (inl same) = let s = same.1 in record { work = is.work; conn = s.conn ∙ is.wire.conn; journal = s.journal ∙ is.journal }
   lacking call (inr wants) = record { work = is.work; conn = wants.conn ∙ is.wire.conn; journal = wants.journal ∙ is.journal }
+
+-- What an error says of the wire holds of the errand and of what comes back.
+pub lacks_answer : {W : Type 0} (heard : W → Option WireTold) (it before after : Sent W) (permit : Permit) → it ≡ before → permit ≡ it.work.permit
+    → ((it.wire.spare ≡ 0) × SameHeard heard it.wire after.wire) ⊎ Wants heard permit.call it.wire after.wire → LacksAnswer heard before after
+lacks_answer {W} heard it before after permit was same lacks =
+    subst (λ (b : Sent W). LacksAnswer heard b after) was
+    (subst (λ (p : Permit). ((it.wire.spare ≡ 0) × SameHeard heard it.wire after.wire) ⊎ Wants heard p.call it.wire after.wire) same lacks)

@@ -1,5 +1,5 @@
 -- What is carried out of the hall and back: a driver call that is to be made, with the wire of its connection.
-use Rattle.std.specs.Prelude.{ℕ, ◌≡◌, ◌≢◌, ◌<◌, ◌^◌, ◌∷◌, Bool, true, List, Option, Some, is_some}
+use Rattle.std.specs.Prelude.{ℕ, ◌≡◌, ◌≢◌, ◌<◌, ◌⊎◌, ◌^◌, ◌∷◌, Bool, true, List, Option, Some, is_some}
 use Rattle.dsql_engine_laws.specs.driver.Wires.{WireTold}
 use Rattle.dsql_engine_laws.specs.journal.declared.entry.Entry.{Entry}
 use Rattle.dsql_engine_laws.specs.journal.HandlesAndCursors.{fits_at_its_place}
@@ -8,7 +8,7 @@ use Rattle.dsql_engine_laws.specs.history.Readers.Clients.{client_of}
 use Rattle.dsql_engine_laws.specs.history.Readers.Journals.{journal}
 use Rattle.dsql_engine_laws.specs.wire.Journaled.{Journaled, MayBeSent}
 use Rattle.dsql_player_wires.specs.Made.{Made, aside_on}
-use Rattle.dsql_player_wires.specs.WiresFit.{RecordsAside}
+use Rattle.dsql_player_wires.specs.WiresFit.{RecordsAside, SameHeard, Wants}
 use Rattle.dsql_hall_bonds.specs.Work.{Work}
 
 -- An errand: the work that is out, the client whose call makes the driver call, and the wire.
@@ -56,6 +56,13 @@ pub record IsBack {W : Type 0} (heard : W
   pub entry : it.entry ≡ answered it.work.permit it.entry.answer
   pub fits : fits_at_its_place (journal it.work.past it.work.permit.conn) it.entry ≡ true
   pub journal : it.wire.journal ≡ it.entry ∷ journal it.work.past it.work.permit.conn
+
+-- Holds of an errand and of what came back of it without an answer. Either the judge had no room for the answer, the
+-- driver wasn't asked, and the wire is as it was. Or the driver answered Memory, and its record shows that.
+abbrev pub LacksAnswer : {W : Type 0} → (W → Option WireTold) → Sent W → Sent W → Type 0
+LacksAnswer heard before after =
+    ((before.wire.spare ≡ 0) × SameHeard heard before.wire after.wire)
+    ⊎ Wants heard before.work.permit.call before.wire after.wire
 
 -- Holds of an errand that came back without an answer, because memory was wanting.
 pub record IsUnheard {W : Type 0} (it : Sent W) : Type 0 where

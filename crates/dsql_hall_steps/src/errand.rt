@@ -1,5 +1,6 @@
 //! What is carried out of the hall and back.
 ghost use Rattle.std.specs.Prelude.{◌≡◌, IfErr, IfOk};
+ghost use Rattle.dsql_hall_steps.specs.Errands.{LacksAnswer};
 
 use crate::race::Race;
 use dsql_engine_laws::{Heard, Permit, Wire};
@@ -25,7 +26,7 @@ impl<K: Race, W: Wire> Model for Errand<K, W> {
     ghost view = { λ e. record { work = e.bond; client = e.client; wire = e.wire } };
 
     ghost invariant = { λ e. (e.permit ≡ e.bond.permit)
-        × IsErrand W.told K.telling K.made (record { work = e.bond; client = e.client; wire = e.wire }) };
+        × IsErrand W.told K.terms.telling K.terms.made (record { work = e.bond; client = e.client; wire = e.wire }) };
 }
 
 /// What comes back of an errand: the wire, and the entry that the driver's answer made. Contracts see these with the
@@ -44,7 +45,7 @@ impl<K: Race, W: Wire> Model for Back<K, W> {
 
     ghost view = { λ b. record { work = b.bond; client = b.client; wire = b.wire; entry = b.heard } };
 
-    ghost invariant = { λ b. IsBack W.told K.telling K.made
+    ghost invariant = { λ b. IsBack W.told K.terms.telling K.terms.made
         (record { work = b.bond; client = b.client; wire = b.wire; entry = b.heard }) };
 }
 
@@ -89,6 +90,7 @@ impl<K: Race, W: Wire> Errand<K, W> {
         ensures back { IfOk result (λ back. back.work ≡ self.work) }
         ensures conn { IfOk result (λ back. back.wire.conn ≡ self.wire.conn) }
         ensures unheard { IfErr result (λ unheard. unheard.work ≡ self.work) }
+        ensures wire { IfErr result (λ unheard. LacksAnswer W.told self unheard) }
     {
         let Errand {
             permit,

@@ -2,7 +2,7 @@ use Rattle.std.proofs.Common.{◌≡◌, ap, subst, sym}
 use Rattle.dsql_engine_laws.specs.journal.declared.entry.Permit.{Permit}
 use Rattle.dsql_engine_laws.specs.tenure.Judged.{answered}
 use Rattle.dsql_engine_laws.specs.wire.Journaled.{MayBeSent}
-use Rattle.dsql_hall_steps.proofs.Sent.{lacking, performed}
+use Rattle.dsql_hall_steps.proofs.Sent.{lacking, lacks_answer, performed}
 use Rattle.dsql_hall_steps.proofs.errand.Errand.perform.Goals as goal
 
 pub perform_on-requires : goal.perform_on-requires
@@ -19,3 +19,6 @@ invariant_of-result g c =
 pub invariant_of-result-in-Err : goal.invariant_of-result-in-Err
 invariant_of-result-in-Err g c =
     let is = c.self.invariant in (ap (λ (p : Permit). p.conn) is.0, lacking _ _ _ _ _ is.1 c.self.inside.permit.call c.in-Err.ensures.err)
+
+pub returns-in-Err-clause-wire : goal.returns-in-Err-clause-wire
+returns-in-Err-clause-wire g c = lacks_answer _ _ _ _ _ c.self.view_is c.self.invariant.0 c.in-Err.ensures.err
