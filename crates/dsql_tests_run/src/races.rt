@@ -3,6 +3,5 @@
 
 mod at_once;
 mod four;
-mod many;
 mod meeting;
 mod one;
