@@ -21,4 +21,6 @@ invariant_of-result-in-Err g c =
     let is = c.self.invariant in (ap (λ (p : Permit). p.conn) is.0, lacking _ _ _ _ _ is.1 c.self.inside.permit.call c.in-Err.ensures.err)
 
 pub returns-in-Err-clause-wire : goal.returns-in-Err-clause-wire
-returns-in-Err-clause-wire g c = lacks_answer _ _ _ _ _ c.self.view_is c.self.invariant.0 c.in-Err.ensures.err
+returns-in-Err-clause-wire g c =
+    let it = c.self.inside in
+    lacks_answer _ _ _ (record { work = it.bond; client = it.client; wire = c.perform_on.new.wire }) _ c.self.view_is c.self.invariant.0 c.in-Err.ensures.err
