@@ -1,6 +1,6 @@
 -- What is true of a race that is over. The argument takes each part from what the threads left, and from what the end
 -- of the run adds to it.
-use Rattle.std.proofs.Common.{◌≡◌, ◌≤◌, ℕ, true, false, List, [], ◌++◌, Option, Some, None, Result, Ok, Err, refl, ap, sym, subst, ◌∙◌, length}
+use Rattle.std.proofs.Common.{◌≡◌, ◌≤◌, ℕ, true, List, ◌++◌, Option, Some, None, Result, Ok, Err, ap, sym, subst, ◌∙◌, length}
 use Rattle.std.specs.Prelude.{OnOk, unwrap_or}
 use Rattle.dsql_hall_steps.specs.history.declared.event.Control.{Control}
 use Rattle.dsql_hall_steps.specs.history.declared.event.Event.{Event}
@@ -20,7 +20,6 @@ use Rattle.dsql_hall_steps.specs.Racing.{Races, RacesAll}
 use Rattle.dsql_hall_steps.specs.Terms.{Terms}
 use Rattle.dsql_hall.specs.Ends.{EndsRace}
 use Rattle.dsql_hall.specs.Raced.{RacesThrough, SetsSome, ends_last}
-use Rattle.dsql_hall.proofs.Setting.{left_limit}
 
 -- What is true anyway is true on success.
 pub ok_so : {A E : Type 0} (r : Result A E) (P : Type 0) → P → OnOk r P
@@ -45,13 +44,6 @@ halted race halt left p keeps full = record {
 pub full_or : (stopped : Option Halt) (events : ℕ) → (stopped ≡ Some Full → most_events ≤ events) → unwrap_or stopped Memory ≡ Full → most_events ≤ events
 full_or None events full is = absurd cc
 full_or (Some halt) events full is = full (ap Some is)
-
--- A race that couldn't begin for want of memory is a race in part.
-pub unbegun : (run : Event) (lines : List Line) (left : List Control) (p : Playing) → Legal p.past → Races run lines p.past → p.trimmed ≡ 0 → set_in p.past ++ left ≡ settings_of lines
-    → SetsFirst (length (settings_first lines)) p.past → EndsRace run lines (Err Memory) p
-unbegun run lines left p legal races whole all first =
-    halted (record { run = run; lines = lines; telling = false; made = [] }) Memory left p
-    (record { legal = legal; ordered = races; whole = whole; settings = all; first = first; limits = left_limit lines (set_in p.past) left all }) (λ is. absurd cc)
 
 -- A race whose end was tried is over, or is a race in part.
 pub finished : (race : Terms) (lines : List Line) (left : List Control) (stopped : Result (Unit {0}) Halt) (old new : Playing) → race.lines ≡ lines → Keeps race old left
