@@ -13,7 +13,7 @@ pub with_both : (w : Option (List ℕ)) (a b : List ℕ) → with_text (with_tex
 with_both None a b = refl
 with_both (Some bytes) a b = ap Some (append_assoc bytes a b)
 
-with_nothing : (w : Option (List ℕ)) → w ≡ with_text w []
+pub with_nothing : (w : Option (List ℕ)) → w ≡ with_text w []
 with_nothing None = refl
 with_nothing (Some bytes) = ap Some (sym (append-nil bytes))
 
@@ -22,7 +22,7 @@ pub text_on : (added past : List Event) → text_of (added ++ past) ≡ text_of 
 text_on [] past = sym (append-nil (text_of past))
 text_on (e ∷ added) past = rw (text_on added past) (append_assoc (text_of past) (text_of added) (line_of e))
 
-oldest_of : (n : ℕ) (events : List Event) → oldest n (reverse events) ≡ reverse (take n events)
+pub oldest_of : (n : ℕ) (events : List Event) → oldest n (reverse events) ≡ reverse (take n events)
 oldest_of n events = rw (reverse-reverse events) refl
 
 -- The text of all events is that of the first n followed by that of the others.

@@ -13,6 +13,9 @@ use std::alloc::Global;
 use std::marker::Model;
 use thiserror::Error;
 
+/// How many events are spelled and written at once.
+const AT_ONCE: usize = 32;
+
 /// Why a report wasn't written in full.
 #[derive(Clone, Copy, Debug, PartialEq, Eq, Error)]
 pub enum ShowFault {
@@ -79,7 +82,7 @@ fn spell(alloc: Global, events: &[Event], lines: &mut Vec<u8>) -> Result<(), Mem
 }
 
 /// Spells the lines of events, which are oldest first, in the buffer and writes them in one piece.
-fn show_events<K: Sink>(
+fn show_piece<K: Sink>(
     alloc: Global,
     events: &[Event],
     lines: &mut Vec<u8>,
@@ -93,6 +96,29 @@ fn show_events<K: Sink>(
 {
     spell(alloc, events, lines)?;
     write_whole(output, lines.as_slice())?;
+    Ok(())
+}
+
+/// Writes the lines of events, which are oldest first. Spells and writes a few at a time, because spelling an event
+/// takes longer in a full buffer.
+fn show_events<K: Sink>(
+    alloc: Global,
+    events: &[Event],
+    lines: &mut Vec<u8>,
+    output: &mut K,
+) -> Result<(), ShowFault>
+    ensures ok { OnOk result (K.written output.new ≡ with_text (K.written output.old) (text_of (reverse events.now))) }
+    ensures err { OnErr result (StopsBetween (K.written output.old) [] (text_of (reverse events.now))
+        (K.written output.new)) }
+    ensures faults { CountsFaults (is_sink_fault result) (K.faults output.old) (K.faults output.new) }
+    ensures given_up { is_sink_fault result ≡ true → GivenUp K.Sink output.old output.new }
+{
+    let mut done = 0;
+    while done < events.len() {
+        let end = events.len().min(done.saturating_add(AT_ONCE));
+        show_piece(alloc, &events[done..end], lines, output)?;
+        done = end;
+    }
     Ok(())
 }
 

@@ -1,28 +1,48 @@
-use Rattle.std.proofs.Common.{◌≡◌, length, ap, sym, ◌∙◌, take, drop, refl, arith, length-take-le}
-use Rattle.std.specs.Prelude.{Err, reverse}
-use Rattle.std.proofs.lemmas.List.{take-append-drop}
-use Rattle.dsql_script_report.specs.Lines.{text_of}
-use Rattle.dsql_script_show.specs.declared.showing.ShowFault.TheVariants as faults
+use Rattle.std.proofs.Common.{◌≡◌, ◌≤◌, ◌∙◌, refl, true, subst, arith}
+use Rattle.std.specs.Prelude.{Err}
+use Rattle.dsql_driver_stream.specs.Faults.{CountsFaults}
+use Rattle.dsql_script_show.specs.Report.{is_sink_fault}
 use Rattle.dsql_script_show.proofs.Errors.{err_is}
-use Rattle.dsql_script_show.proofs.Texts.{stops_before}
+use Rattle.dsql_script_show.proofs.Pieces.{all_shown, shows_piece, stops_in_piece}
+use Rattle.dsql_script_show.proofs.Texts.{with_nothing}
 use Rattle.dsql_script_show.proofs.showing.show_events.Goals as goal
 
-pub returns-in_err-spell-clause-err : goal.returns-in_err-spell-clause-err
-returns-in_err-spell-clause-err g c =
-    let is : c.from_residual.result ≡ Err faults.Memory = err_is c.from_residual.result faults.Memory c.from_residual.ensures.1 in
-    rw is (stops_before (g.K.Sink.written c.args.output.now) c.args.events.now c.in_err-spell.ensures.err)
+pub loop-done-init : goal.loop-done-init
+loop-done-init g c = record { within = omega arith; front = with_nothing (g.K.Sink.written c.args.output.now); faultless = refl }
 
-pub returns-in_err-write_whole-clause-err : goal.returns-in_err-write_whole-clause-err
-returns-in_err-write_whole-clause-err g c =
-    let is : c.from_residual-in_err-write_whole.result ≡ Err faults.Failed = err_is c.from_residual-in_err-write_whole.result faults.Failed c.from_residual-in_err-write_whole.ensures.1 in
-    let piece = c.as_slice.result.now in
-    let written = c.in_err-write_whole.field-0.0.written in
-    let text : piece ≡ text_of (reverse c.args.events.now) = c.as_slice.ensures.value ∙ c.in_ok-spell.ensures.ok in
+pub returns-in_err-show_piece-clause-err : goal.returns-in_err-show_piece-clause-err
+returns-in_err-show_piece-clause-err g c =
+    let is : c.from_residual.result ≡ Err c.in_err-show_piece.field-0.0 = err_is c.from_residual.result c.in_err-show_piece.field-0.0 c.from_residual.ensures.1 in
+    let within : c.loop-done.done ≤ c.min-end.result = omega (arith, c.loop-done.invariant.within) in
     rw is
-    (record {
-      front = take written piece;
-      holds = record { rest = take written piece; parts = refl };
-      short = omega (arith, ap length text, c.in_err-write_whole.ensures.cut, length-take-le written piece (omega (arith, c.in_err-write_whole.ensures.cut)));
-      begins = record { rest = drop written piece; parts = sym text ∙ sym (take-append-drop written piece) };
-      written = c.in_err-write_whole.ensures.front;
-    })
+    (stops_in_piece (g.K.Sink.written c.args.output.now) (g.K.Sink.written c.loop-done.output) (g.K.Sink.written c.show_piece.new.output) c.loop-done.done c.min-end.result c.args.events.now within
+    c.loop-done.invariant.front
+    c.in_err-show_piece.ensures.err)
+
+pub returns-in_err-show_piece-clause-faults : goal.returns-in_err-show_piece-clause-faults
+returns-in_err-show_piece-clause-faults g c =
+    let is : c.from_residual.result ≡ Err c.in_err-show_piece.field-0.0 = err_is c.from_residual.result c.in_err-show_piece.field-0.0 c.from_residual.ensures.1 in
+    rw is (subst (λ k. CountsFaults (is_sink_fault (Err c.in_err-show_piece.field-0.0)) k (g.K.Sink.faults c.show_piece.new.output)) c.loop-done.invariant.faultless c.in_err-show_piece.ensures.faults)
+
+pub returns-in_err-show_piece-clause-given_up : goal.returns-in_err-show_piece-clause-given_up
+returns-in_err-show_piece-clause-given_up g c = λ failed.
+    let is : c.from_residual.result ≡ Err c.in_err-show_piece.field-0.0 = err_is c.from_residual.result c.in_err-show_piece.field-0.0 c.from_residual.ensures.1 in
+    let given_up = c.in_err-show_piece.ensures.given_up (subst (λ r. is_sink_fault r ≡ true) is failed) in
+    record { last = given_up.last; well = given_up.well ∙ c.loop-done.invariant.faultless; kept = given_up.kept }
+
+pub loop-done-preserved : goal.loop-done-preserved
+loop-done-preserved g c =
+    let within : c.loop-done.done ≤ c.min-end.result = omega (arith, c.loop-done.invariant.within) in
+    record {
+      within = omega arith;
+      front = shows_piece (g.K.Sink.written c.args.output.now) (g.K.Sink.written c.loop-done.output) (g.K.Sink.written c.show_piece.new.output) c.loop-done.done c.min-end.result c.args.events.now within
+          c.loop-done.invariant.front
+          c.in_ok-show_piece.ensures.ok;
+      faultless = c.in_ok-show_piece.ensures.faults.faultless refl ∙ c.loop-done.invariant.faultless;
+    }
+
+pub returns-clause-ok : goal.returns-clause-ok
+returns-clause-ok g c = all_shown (g.K.Sink.written c.loop-done.output) (g.K.Sink.written c.args.output.now) c.loop-done.done c.args.events.now (omega arith) c.loop-done.invariant.front
+
+pub returns-clause-faults : goal.returns-clause-faults
+returns-clause-faults g c = record { caused = λ failed. absurd (cc failed); counted = omega (arith, c.loop-done.invariant.faultless); faultless = λ well. c.loop-done.invariant.faultless }
