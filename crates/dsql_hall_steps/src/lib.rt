@@ -20,6 +20,7 @@ mod opening;
 mod race;
 mod returning;
 mod step;
+mod waking;
 
 pub use chore::Chore;
 pub use closing::Closed;
