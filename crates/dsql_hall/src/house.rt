@@ -1,15 +1,17 @@
 //! The house, which takes the layer's steps.
 ghost use Rattle.std.specs.Prelude.{◌≡◌, false, is_some};
 ghost use Rattle.dsql_hall_steps.specs.House.{IsOwn, IsShutting};
+ghost use Rattle.dsql_hall.specs.Calls.{IsOfClient};
 ghost use Rattle.dsql_hall.specs.Fleets.{KeepsHouse};
 
 use crate::moments::Moments;
-use crate::shared::SharedHall;
+use crate::shared::{Locked, SharedHall};
 use crate::turns::Turns;
-use dsql_hall_steps::{Bond, Chore, Errand, Fleet, Opening, Race, Wire, retire_wire};
+use crate::waiting::HouseWait;
+use dsql_hall_steps::{Bond, Chore, Errand, Fleet, Opening, Race, Step, Wire, retire_wire};
 use dsql_history::{Clock, Gate};
 use std::alloc::Global;
-use std::sync::Wait;
+use std::sync::{MutexGuard, Wait};
 
 /// The house: its bond, the fleet and the moments.
 #[derive(Drop)]
@@ -22,6 +24,16 @@ pub(crate) struct House<'f, 'c, K: Race, F: Fleet, C: Clock> {
     /// Whether the answer to one of the layer's driver calls was dropped, because the run had stopped or stopped then.
     /// What the fleet records after that may be more than the history has.
     pub(crate) cut: bool,
+}
+
+/// Returns what the house waits for if it has no step to take. If it takes the steps of clients, or sets moments, any
+/// change may let it go on.
+fn house_wait<C: Clock>(turns: &Turns<'_>, moments: &Moments<'_, C>) -> HouseWait {
+    if turns.is_empty() && !moments.are_needed() {
+        HouseWait::ForStep
+    } else {
+        HouseWait::ForChange
+    }
 }
 
 impl<K: Race, W: Wire> SharedHall<K, W> {
@@ -54,7 +66,7 @@ impl<K: Race, W: Wire> SharedHall<K, W> {
     }
 
     /// Takes the layer's next step. If it has none to take, takes one of a client that has no thread. If all of those
-    /// wait too, this waits until another thread has changed the hall.
+    /// wait too, this waits until another thread wakes the house.
     fn step_house<'f, 'c, F: Fleet<Wire = W>, C: Clock, G: Gate, R: Wait>(
         &self,
         rt: &R,
@@ -71,38 +83,59 @@ impl<K: Race, W: Wire> SharedHall<K, W> {
             result.fleet.now house.entry.own result.own result.cut }
     {
         self.set_moment(rt, &mut house.moments);
-        let mut guard = self.hall.lock(rt);
-        match guard.house_next(&self.cell) {
+        let mut guard = self.locked.lock(rt);
+        match guard.hall.house_next(&self.cell) {
             Chore::Connect(opening) => {
-                drop(guard);
+                self.release(guard);
                 return self.open(rt, alloc, house, opening);
             }
             Chore::Shut(errand) => {
-                drop(guard);
+                self.release(guard);
                 return self.shut(rt, house, errand);
             }
-            Chore::Again => {
-                drop(guard);
-                self.changed.notify_all();
-            }
+            Chore::Again => self.release(guard),
             Chore::Wait => {
-                let (client, step) = turns.take(&mut guard, &self.cell);
-                self.act(rt, gate, guard, client, step);
+                let wait = house_wait(turns, &house.moments);
+                let (client, step) = turns.take(&mut guard.hall, &self.cell);
+                self.act(rt, gate, guard, wait, client, step);
             }
             Chore::Over => {
-                drop(guard);
-                self.changed.notify_all();
+                self.release(guard);
                 house.over = true;
             }
         }
         house
     }
 
+    /// Does what the step of a client that has no thread asks for, and lets go of the lock. If there is no step to
+    /// take, the house waits.
+    fn act<'b, G: Gate, R: Wait>(
+        &'b self,
+        rt: &R,
+        gate: &G,
+        guard: MutexGuard<'b, Locked<K, W>>,
+        wait: HouseWait,
+        client: u8,
+        step: Step<K, W>,
+    )
+        requires { IsOfClient step }
+    {
+        match step {
+            Step::Go(errand) => {
+                let guard = self.go(rt, gate, guard, client, errand);
+                self.release(guard);
+            }
+            Step::Again | Step::Over => self.release(guard),
+            Step::Wait => self.wait_as_house(rt, guard, wait),
+        }
+    }
+
     /// Sets the present moment, if it is time for that. The lock must not be held.
     fn set_moment<C: Clock, R: Wait>(&self, rt: &R, moments: &mut Moments<'_, C>) {
         if let Some(now) = moments.next() {
-            self.hall.lock(rt).tick(now);
-            self.changed.notify_all();
+            let mut guard = self.locked.lock(rt);
+            guard.hall.tick(now);
+            self.release(guard);
         }
     }
 
@@ -129,18 +162,19 @@ impl<K: Race, W: Wire> SharedHall<K, W> {
         } = house;
         let (own, cut) = match opening.connect(alloc, fleet) {
             Ok(opened) => {
-                let mut guard = self.hall.lock(rt);
-                let own = guard.hear_opening(&self.cell, own, opened);
-                let cut = guard.is_stopped();
+                let mut guard = self.locked.lock(rt);
+                let own = guard.hall.hear_opening(&self.cell, own, opened);
+                let cut = guard.hall.is_stopped();
+                self.release(guard);
                 (own, cut)
             }
             Err(unopened) => {
-                let mut guard = self.hall.lock(rt);
-                guard.hear_no_opening(&self.cell, unopened);
+                let mut guard = self.locked.lock(rt);
+                guard.hall.hear_no_opening(&self.cell, unopened);
+                self.release(guard);
                 (own, true)
             }
         };
-        self.changed.notify_all();
         House {
             own,
             fleet,
@@ -174,16 +208,18 @@ impl<K: Race, W: Wire> SharedHall<K, W> {
         let conn = errand.conn();
         let (own, wire) = match errand.perform() {
             Ok(back) => {
-                let mut guard = self.hall.lock(rt);
-                guard.hear_shut(&self.cell, own, back)
+                let mut guard = self.locked.lock(rt);
+                let heard = guard.hall.hear_shut(&self.cell, own, back);
+                self.release(guard);
+                heard
             }
             Err(unheard) => {
-                let mut guard = self.hall.lock(rt);
-                guard.hear_nothing(&self.cell, unheard);
+                let mut guard = self.locked.lock(rt);
+                guard.hall.hear_nothing(&self.cell, unheard);
+                self.release(guard);
                 (own, None)
             }
         };
-        self.changed.notify_all();
         let cut = match wire {
             Some(wire) => {
                 retire_wire(wire, conn, fleet);

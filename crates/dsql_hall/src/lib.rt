@@ -4,8 +4,8 @@
 //!
 //! All share one hall under one lock. No driver call is made while a thread holds the lock. That is the order of the
 //! code, and no contract says it. Nor does a contract say that the threads get on. Besides its driver calls, a thread
-//! waits only for the lock and for changes of the hall. Whoever changed the hall so that another may go on lets go of
-//! the lock, and then wakes the others. At the end the house waits for the other threads.
+//! waits only for the lock, and until another thread picks it because it may go on. At the end the house waits for the
+//! other threads.
 #![tactic(auto)]
 
 mod client;
@@ -18,6 +18,7 @@ mod racing;
 mod shared;
 mod threads;
 mod turns;
+mod waiting;
 mod worked;
 
 pub use dsql_hall_steps::{

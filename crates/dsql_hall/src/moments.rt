@@ -24,6 +24,11 @@ impl<'c, C: Clock> Moments<'c, C> {
         }
     }
 
+    /// Is true if the house sets moments.
+    pub(crate) fn are_needed(&self) -> bool {
+        self.needed
+    }
+
     /// Returns the present moment if the house is to set it. It must be later than the last one by the least time.
     pub(crate) fn next(&mut self) -> Option<u64> {
         if !self.needed {

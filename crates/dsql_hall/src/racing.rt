@@ -145,7 +145,7 @@ fn run<K: Race, F: Fleet, C: Clock, G: Gate, R: Threads + Wait + Sync>(
 {
     let (cell, keeper) = unnamed.named::<K>();
     let (hall, own) = Hall::open(&cell, keeper, player, Wires::new(alloc), settings);
-    let shared = SharedHall::new(cell, hall);
+    let shared = SharedHall::new(cell, hall, clients);
     let House {
         own,
         fleet,

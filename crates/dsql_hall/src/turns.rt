@@ -17,6 +17,11 @@ impl<'c> Turns<'c> {
         Turns { clients, turn: 0 }
     }
 
+    /// Is true if every client has a thread.
+    pub(crate) fn is_empty(&self) -> bool {
+        self.clients.is_empty()
+    }
+
     /// Takes the next step of the first client, from the one whose turn it is, that needn't wait. Returns the client
     /// and its step. The turn is then at the client after it. If all of them have to wait or have done all, returns a
     /// step that waits. If a client's step stops the run, returns that step, so that the caller wakes the others.
