@@ -65,14 +65,18 @@ impl Store {
         }
     }
 
-    /// Returns a copy of the entries whose keys begin with a prefix, in the byte order of the keys.
+    /// Returns a copy of the entries whose keys begin with a prefix, in the byte order of the keys. It looks at no
+    /// entries but these and the next one.
     pub fn list(&self, alloc: Global, prefix: &str) -> Result<Items<Entry>, Memory>
         ensures { IfOk result (λ entries. entries ≡ listed prefix.now self.now) }
     {
+        let from = String::from_str(alloc, prefix)?;
         let mut entries = Vec::new(alloc);
-        for (key, value) in &self.values {
+        for (key, value) in self.values.range(from..) {
             if begins_with(key.as_str(), prefix) {
                 entries.push((Txt::copy_of(alloc, key.as_str())?, value.clone()?))?;
+            } else {
+                break;
             }
         }
         Ok(Items::new(entries))
