@@ -19,7 +19,8 @@ use Rattle.dsql_hall_steps.specs.Limits.{SetsFirst, are_set_first, set_in, setti
 use Rattle.dsql_hall_steps.specs.Racing.{Races, RacesAll}
 use Rattle.dsql_hall_steps.specs.Terms.{Terms}
 use Rattle.dsql_hall.specs.Ends.{EndsRace}
-use Rattle.dsql_hall.specs.Raced.{RacesThrough, SetsSome, ends_last}
+use Rattle.dsql_hall.specs.Raced.{SetsSome, ends_last}
+use Rattle.dsql_hall.proofs.Last.{not_ended}
 
 -- What is true anyway is true on success.
 pub ok_so : {A E : Type 0} (r : Result A E) (P : Type 0) → P → OnOk r P
@@ -31,7 +32,12 @@ pub halted : (race : Terms) (halt : Halt) (left : List Control) (p : Playing) �
     → EndsRace race.run race.lines (Err halt) p
 halted race halt left p keeps full = record {
   through = tt;
-  in_part = record { some = keeps.ordered; settings = record { left = left; whole = keeps.settings }; first = keeps.first.before };
+  in_part = record {
+    some = keeps.ordered;
+    settings = record { left = left; whole = keeps.settings };
+    first = keeps.first.before;
+    last = not_ended race.lines p.past keeps.running;
+  };
   over = tt;
   ended = tt;
   quiet = tt;
@@ -48,17 +54,20 @@ full_or (Some halt) events full is = full (ap Some is)
 -- A race whose end was tried is over, or is a race in part.
 pub finished : (race : Terms) (lines : List Line) (left : List Control) (stopped : Result (Unit {0}) Halt) (old new : Playing) → race.lines ≡ lines → Keeps race old left
     → OnOk stopped ((run : Event) → Races run lines old.past → RacesAll run lines new.past) → ((run : Event) → Races run lines old.past → Races run lines new.past) → OnOk stopped (set_in new.past ≡ set_in old.past ++ left)
-    → SetsSome (set_in old.past ++ left) new.past → ((many : ℕ) → SetsFirst many old.past → are_set_first many new.past ≡ true) → OnOk stopped (set_in old.past ++ left ≡ settings_of lines → ends_last lines new.past ≡ true) → OnOk stopped (IsOver new.past) → OnOk stopped (has_ended new.past ≡ true) → OnOk stopped (is_quiet new.past ≡ true) → Legal new.past
+    → SetsSome (set_in old.past ++ left) new.past → ((many : ℕ) → SetsFirst many old.past → are_set_first many new.past ≡ true) → (set_in old.past ++ left ≡ settings_of lines → ends_last lines new.past ≡ true) → OnOk stopped (IsOver new.past) → OnOk stopped (has_ended new.past ≡ true) → OnOk stopped (is_quiet new.past ≡ true) → Legal new.past
     → (stopped ≡ Err Full → most_events ≤ length new.past) → new.trimmed ≡ old.trimmed → EndsRace race.run race.lines stopped new
 finished race lines left stopped old new same keeps carried some set some_set first last over ended quiet legal full trimmed =
     let ordered : Races race.run lines old.past = subst (λ (l : List Line). Races race.run l old.past) same keeps.ordered in
     let sets : set_in old.past ++ left ≡ settings_of lines = keeps.settings ∙ ap settings_of same in
     let before : are_set_first (length (settings_first lines)) new.past ≡ true = first (length (settings_first lines)) (subst (λ (l : List Line). SetsFirst (length (settings_first l)) old.past) same keeps.first) in
     subst (λ (l : List Line). EndsRace race.run l stopped new) (sym same) (record {
-      through =
-          on_ok2 stopped (λ (more : (set_in old.past ++ left ≡ settings_of lines → ends_last lines new.past ≡ true) → RacesThrough race.run lines new.past) latest. more latest)
-          (on_ok2 stopped (λ every done latest. record { all = every race.run ordered; settings = done ∙ sets; first = before; last = latest sets }) carried set) last;
-      in_part = record { some = some race.run ordered; settings = record { left = some_set.left; whole = some_set.whole ∙ sets }; first = before };
+      through = on_ok2 stopped (λ every done. record { all = every race.run ordered; settings = done ∙ sets; first = before; last = last sets }) carried set;
+      in_part = record {
+        some = some race.run ordered;
+        settings = record { left = some_set.left; whole = some_set.whole ∙ sets };
+        first = before;
+        last = last sets;
+      };
       over = over;
       ended = ended;
       quiet = quiet;

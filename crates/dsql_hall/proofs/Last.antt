@@ -1,6 +1,7 @@
 -- The run of a race ends last. The argument is that its end comes in its turn, and that nobody may go on then.
 use Rattle.std.proofs.Common.{◌≡◌, ℕ, ◌==◌, Bool, true, false, not, ◌&&◌, ◌||◌, cond, List, [], ◌∷◌, ◌++◌, length, filter, is_none, reverse, refl, ap, sym, ◌∙◌}
 use Rattle.std.specs.List.{list_all}
+use Rattle.std.specs.Prelude.{Result, Ok, Err, OnOk, OnErr}
 use Rattle.dsql_hall_steps.specs.journal.Readers.{is_empty}
 use Rattle.dsql_hall_steps.specs.history.declared.event.Event.{Event}
 use Rattle.dsql_hall_steps.specs.history.declared.event.Event.TheVariants.{Ended}
@@ -11,8 +12,11 @@ use Rattle.dsql_hall_steps.specs.follows.declared.line.Line.{Line}
 use Rattle.dsql_hall_steps.specs.follows.Moments.{Moment, at_end, begins_step, is_held, kept, rested, walk}
 use Rattle.dsql_hall_steps.specs.follows.Sentences.{come_in_turn, passed}
 use Rattle.dsql_hall_steps.specs.follows.Turns.{can_move, clients, comes_in_turn, first_chore, has_run_out, least, may_go, next_client}
-use Rattle.dsql_hall_steps.specs.player.Carried.{CarriesEnd}
+use Rattle.dsql_hall_steps.specs.player.declared.halt.Halt.{Halt}
+use Rattle.dsql_hall_steps.specs.player.Carried.{CarriesEnd, StopsInEnd}
+use Rattle.dsql_hall_steps.specs.player.Playing.{IsAt, Playing}
 use Rattle.dsql_hall_steps.specs.Limits.{set_in, settings_of}
+use Rattle.dsql_hall_steps.specs.Racing.{resting}
 use Rattle.dsql_hall_steps.proofs.Ordered.{lines_after, past_after}
 use Rattle.dsql_hall.specs.Raced.{ends_last, is_busy_or_done}
 use Rattle.dsql_hall.proofs.Setting.{turns_set}
@@ -72,6 +76,12 @@ turns_last m lines (e ∷ rest) its set runs h =
     let a = both (not (begins_step now e) || comes_in_turn (rested (begins_step now e) now) e) (come_in_turn (passed m rest)) h in
     turns_last m lines rest its set runs a.1
 
--- A run whose limits were all set ends last.
-pub ends_at_last : (m : Moment) (lines : List Line) (new : List Event) → m.lines ≡ reverse lines → has_ended m.past ≡ false → set_in m.past ≡ settings_of lines → CarriesEnd m m.past new → ends_last lines new ≡ true
-ends_at_last m lines new its running set c = ap (ends_last lines) c.grows ∙ turns_last (at_end m) lines c.events its set (not_ended lines m.past running) c.follows.in_turn
+-- A run whose limits were all set ends last, also if the end of its script couldn't be carried out.
+pub ended_last : (r : Result (Unit {0}) Halt) (script : List Line) (p : Playing) (new : List Event) → IsAt (resting script p) p → has_ended p.past ≡ false → set_in p.past ≡ settings_of script
+    → OnOk r ((m : Moment) → IsAt m p → CarriesEnd m p.past new) → OnErr r ((m : Moment) → IsAt m p → StopsInEnd m p.past new) → ends_last script new ≡ true
+ended_last (Ok done) script p new at running set carries stops =
+    let end = carries (resting script p) at in
+    ap (ends_last script) end.grows ∙ turns_last (at_end (resting script p)) script end.events refl set (not_ended script p.past running) end.follows.in_turn
+ended_last (Err halt) script p new at running set carries stops =
+    let end = stops (resting script p) at in
+    ap (ends_last script) end.grows ∙ turns_last (at_end (resting script p)) script end.events refl set (not_ended script p.past running) end.in_turn

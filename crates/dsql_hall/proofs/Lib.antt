@@ -4,5 +4,5 @@ pub use Rattle.dsql_hall_steps.proofs as hall_steps
 pub mod Setting
 pub mod Plans
 pub mod Along
-pub mod Finished
 pub mod Last
+pub mod Finished

@@ -63,7 +63,8 @@ ends_last lines (_ ∷ past) = ends_last lines past
 
 -- Holds if a race carried these lines out, the oldest first. From the run's first event on each client's lines were
 -- entered in their order, each once, and each call has its reply. The limits of the lines were set in their order, and
--- no others. Those before the first line of a client were set before any call entered. The run ended after that.
+-- no others. No line of a race holds a call. The limits before the first line of a client were set before any call
+-- entered. The run ended after that.
 pub record RacesThrough (run : Event) (lines : List Line) (past : List Event) : Type 0 where
   pub all : RacesAll run lines past
   pub settings : set_in past ≡ settings_of lines
@@ -71,9 +72,10 @@ pub record RacesThrough (run : Event) (lines : List Line) (past : List Event) : 
   pub last : ends_last lines past ≡ true
 
 -- Holds if a race had to stop in these lines. Each client's lines that were entered are its first ones, in their order,
--- each once. The limits that were set are the first ones, in their order. Those before the first line of a client were
--- set before any call entered.
+-- each once. The limits that were set are the first ones, in their order. No line of a race holds a call. No call
+-- entered before the limits that stand before the first line of a client were set. The run, if it ended, ended last.
 pub record RacesInPart (run : Event) (lines : List Line) (past : List Event) : Type 0 where
   pub some : Races run lines past
   pub settings : SetsSome (settings_of lines) past
   pub first : are_set_first (length (settings_first lines)) past ≡ true
+  pub last : ends_last lines past ≡ true

@@ -87,8 +87,8 @@ fn run_through<F: Fleet>(
     ensures set { OnOk result (set_in player.new.past ≡ set_in player.old.past ++ settings.items) }
     ensures some_set { SetsSome (set_in player.old.past ++ settings.items) player.new.past }
     ensures first { (many : ℕ) → SetsFirst many player.old.past → are_set_first many player.new.past ≡ true }
-    ensures last { OnOk result (set_in player.old.past ++ settings.items ≡ settings_of (reverse lines.now.items)
-        → ends_last (reverse lines.now.items) player.new.past ≡ true) }
+    ensures last { set_in player.old.past ++ settings.items ≡ settings_of (reverse lines.now.items)
+        → ends_last (reverse lines.now.items) player.new.past ≡ true }
     ensures over { OnOk result (IsOver player.new.past) }
     ensures ended { OnOk result (has_ended player.new.past ≡ true) }
     ensures quiet { OnOk result (is_quiet player.new.past ≡ true) }

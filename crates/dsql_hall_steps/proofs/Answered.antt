@@ -191,12 +191,11 @@ module _ {W : Type 0} (heard : W → Option WireTold) (race : Terms) (h : InHall
     -- The hall after the answer was taken in.
     pub heard_on : (left : ℕ) → h.away ≡ left + 1 → IsHall heard race (record h { player = q; slots = now; out = without c h.out; away = left })
     heard_on left less = record {
-      keeps = step_keeps race p q (IsAnswerTo (call_of p.past back.client)) step h.settings (λ past. answer_sets step.first step.kind_is.entry past step.kind_is.heard) took.legal took.trimmed is.keeps;
+      keeps = step_keeps race p q (IsAnswerTo (call_of p.past back.client)) step h.settings (λ past. answer_sets step.first step.kind_is.entry past step.kind_is.heard) took.legal took.trimmed took.course.ended is.keeps;
       back = back_home c back.work h.slots now h.out h.away left (slot_set h.slots c (Some back.wire)) its_out less is.back;
       full = not_full h q.past runs;
       well = λ none. record {
         ready = took.ready;
-        running = took.course.ended ∙ on.running;
         at = step_rests race.lines p q (IsAnswerTo (call_of p.past back.client)) step lawful;
         fits = fits_now;
         work = work_now;

@@ -5,6 +5,7 @@ use Rattle.dsql_engine_laws.specs.driver.Wires.{WireTold}
 use Rattle.dsql_engine_laws.specs.history.declared.event.Control.{Control}
 use Rattle.dsql_engine_laws.specs.history.declared.event.Event.{Event}
 use Rattle.dsql_engine_laws.specs.history.Legal.{Legal}
+use Rattle.dsql_engine_laws.specs.history.Readers.Course.{has_ended}
 use Rattle.dsql_engine_laws.specs.history.Readers.Journals.{journal}
 use Rattle.dsql_engine_laws.specs.laws_steps.Groups.{most_events}
 use Rattle.dsql_engine_laws.specs.wire.Journaled.{Journaled}
@@ -118,6 +119,7 @@ some_away c work slots out away is back = let count = back.count in let one = on
 pub keeps_still : (race : Terms) (p q : Playing) (settings : List Control) → q.past ≡ p.past → q.trimmed ≡ p.trimmed → Keeps race p settings → Keeps race q settings
 keeps_still race p q settings same trimmed keeps = record {
   legal = subst Legal (sym same) keeps.legal;
+  running = ap has_ended same ∙ keeps.running;
   ordered = subst (Races race.run race.lines) (sym same) keeps.ordered;
   whole = trimmed ∙ keeps.whole;
   settings = ap (λ past. set_in past ++ settings) same ∙ keeps.settings;

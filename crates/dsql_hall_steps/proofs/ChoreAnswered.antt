@@ -251,12 +251,11 @@ module _ {W : Type 0} (heard : W → Option WireTold) (race : Terms) (h : InHall
         pub took_on : (left : ℕ) → h.away ≡ left + 1 → IsHall heard race (record h { player = q; slots = now; out = out_now; away = left; chore = None })
         took_on left less = record {
           keeps =
-              step_keeps race p q (IsChoreOn (Some e.conn)) step h.settings (λ past. chore_sets (Some e.conn) step.first step.call past step.kind_is) took.ready.legal (ap (λ (x : Playing). x.trimmed) took.player) is.keeps;
+              step_keeps race p q (IsChoreOn (Some e.conn)) step h.settings (λ past. chore_sets (Some e.conn) step.first step.call past step.kind_is) took.ready.legal (ap (λ (x : Playing). x.trimmed) took.player) took.course.ended is.keeps;
           back = renewed_back now (without c h.out) left own new refl own_out (back_home c work h.slots now h.out h.away left changes it.was_out less is.back);
           full = not_full h q.past runs;
           well = λ none. record {
             ready = took.ready;
-            running = took.course.ended ∙ on.running;
             at = step_rests race.lines p q (IsChoreOn (Some e.conn)) step lawful;
             fits = fits_now;
             work = work_now;

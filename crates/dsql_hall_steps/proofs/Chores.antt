@@ -104,7 +104,7 @@ module _ {W : Type 0} (heard : W → Option WireTold) (race : Terms) (h : InHall
   may_be_made = chore_made p.past c permit l on.ready.legal.settled.nothing_owed may.due
 
   unlent : is_lent (place p.past c) ≡ false
-  unlent = unlent_chore p.past c permit l on.running may.due
+  unlent = unlent_chore p.past c permit l may.is.keeps.running may.due
 
   -- No work is out on the connection.
   pub none_out : find c h.out ≡ None
@@ -153,7 +153,6 @@ module _ {W : Type 0} (heard : W → Option WireTold) (race : Terms) (h : InHall
     full = may.is.full;
     well = λ none. record {
       ready = on.ready;
-      running = on.running;
       at = on.at;
       fits = sent_fits c work_of h.slots now h.out changes refl none_out empty heard race.telling race.made p.past refl on.fits;
       work = sent_work c work_of h.slots now h.out changes refl none_out empty p h.chore (Some c) is_out still on.work;

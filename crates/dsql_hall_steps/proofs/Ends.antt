@@ -2,7 +2,6 @@
 use Rattle.std.proofs.Common.{◌≡◌, ◌≢◌, inl, inr, ◌==◌, ℕ, Bool, true, false, cond, List, [], ◌∷◌, length, Option, Some, None, refl, ap, sym, subst, ◌∙◌, arith, eqb-true}
 use Rattle.dsql_engine_laws.specs.driver.Wires.{WireTold}
 use Rattle.dsql_engine_laws.specs.history.declared.event.Control.{Control}
-use Rattle.dsql_engine_laws.specs.history.Readers.Course.{has_ended}
 use Rattle.dsql_engine_laws.specs.history.Readers.Journals.{journal}
 use Rattle.dsql_engine_laws.specs.wire.Journaled.{Journaled}
 use Rattle.dsql_player_wires.specs.Made.{aside_on}
@@ -21,8 +20,7 @@ use Rattle.dsql_hall_steps.specs.Terms.{Terms}
 
 -- The hall is opened.
 
-module _ {W : Type 0} (heard : W → Option WireTold) (race : Terms) (p : Playing) (slots : List (Option (Journaled W))) (settings : List Control) (ready : IsReady p) (running : has_ended p.past ≡ false)
-    (at : IsAt (resting race.lines p) p) (keeps : Keeps race p settings) (wires : WiresFit heard race.telling p.past slots) (plans : PlansFit heard race.made p.past slots) (silent : journal p.past house ≡ []) where
+module _ {W : Type 0} (heard : W → Option WireTold) (race : Terms) (p : Playing) (slots : List (Option (Journaled W))) (settings : List Control) (ready : IsReady p) (at : IsAt (resting race.lines p) p) (keeps : Keeps race p settings) (wires : WiresFit heard race.telling p.past slots) (plans : PlansFit heard race.made p.past slots) (silent : journal p.past house ≡ []) where
   abbrev own : Work
   own = own_work p.past
 
@@ -64,7 +62,6 @@ module _ {W : Type 0} (heard : W → Option WireTold) (race : Terms) (p : Playin
     full = λ full. absurd cc;
     well = λ none. record {
       ready = ready;
-      running = running;
       at = at;
       fits = fits;
       work = work;
@@ -111,7 +108,6 @@ pub closed : {W : Type 0} (heard : W → Option WireTold) (race : Terms) (h : In
     → IsClosed heard race own.past h.player h.slots
 closed {W} heard race h own is runs alone its found = record {
   ready = on.ready;
-  running = on.running;
   at = on.at;
   wires = λ c. (home c).fits;
   plans = λ c. (home c).plans;

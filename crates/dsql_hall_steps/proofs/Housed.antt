@@ -73,11 +73,12 @@ lacks_slot {W} h before now was runs same = record {
 }
 
 -- One of the layer's own driver calls is taken out.
-pub taken_out : {W : Type 0} (h before : InHall W) (permit : Permit) (bond : Work) (slots : List (Option (Journaled W))) (out : List Work) → h ≡ before → before.stopped ≡ None → chore_due before.player.past ≡ Some permit.conn
-    → bond ≡ record { conn = permit.conn; permit = permit; past = h.player.past } → out ≡ record { conn = permit.conn; permit = permit; past = h.player.past } ∷ h.out → ChangesSlot permit.conn h.slots slots
+pub taken_out : {W : Type 0} (h before : InHall W) (permit : Permit) (bond : Work) (slots : List (Option (Journaled W))) (out : List Work) → h ≡ before → before.stopped ≡ None → before.settings ≡ []
+    → chore_due before.player.past ≡ Some permit.conn → bond ≡ record { conn = permit.conn; permit = permit; past = h.player.past } → out ≡ record { conn = permit.conn; permit = permit; past = h.player.past } ∷ h.out → ChangesSlot permit.conn h.slots slots
     → slot slots permit.conn ≡ None → TakesOut bond before (record h { slots = slots; out = out; away = h.away + 1; chore = Some permit.conn })
-taken_out {W} h before permit bond slots out was runs due tied went changes empty = record {
+taken_out {W} h before permit bond slots out was runs set due tied went changes empty = record {
   runs = runs;
+  set = set;
   due = due ∙ ap Some at;
   empty = ap (slot slots) (sym at) ∙ empty;
   others = λ c apart. changes.others c (λ same. apart (same ∙ at)) ∙ ap (λ b. slot b.slots c) was;
@@ -110,11 +111,12 @@ goes_on : (p : Playing) (next : Option ℕ) → IsNext p next → is_some next �
 goes_on p (Some client) is some = (client, is.may)
 goes_on p None is some = absurd cc
 
-pub waits_for_client : {W : Type 0} (h before : InHall W) (next : Option ℕ) → h ≡ before → before.stopped ≡ None → IsNext h.player next → is_some next ≡ true → HouseWaits before before
-waits_for_client h before next was runs is some = record {
+pub waits_for_client : {W : Type 0} (h before : InHall W) (next : Option ℕ) → h ≡ before → before.stopped ≡ None → before.settings ≡ [] → chore_due before.player.past ≡ None → IsNext h.player next
+    → is_some next ≡ true → HouseWaits before before
+waits_for_client h before next was runs set none is some = record {
   same = refl;
   runs = runs;
-  why = inr (subst (λ b. (client : ℕ) × (goes b.player client ≡ true)) was (goes_on h.player next is some));
+  why = inr (set, none, subst (λ b. (client : ℕ) × (goes b.player client ≡ true)) was (goes_on h.player next is some));
 }
 
 none_goes : (p : Playing) (next : Option ℕ) → IsNext p next → is_some next ≡ false → (client : ℕ) → goes p client ≡ false

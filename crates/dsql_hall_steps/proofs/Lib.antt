@@ -22,3 +22,4 @@ pub mod Housed
 pub mod Returned
 pub mod Heard
 pub mod Stepped
+pub mod MayGoOn

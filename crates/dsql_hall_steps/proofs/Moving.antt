@@ -42,7 +42,6 @@ KeepsLeave seats now = (client : ℕ) (permit : Permit) → (seat seats client).
 -- Holds if a player has gone on from another and no driver was asked.
 pub record MovesOn (race : Terms) (p q : Playing) : Type 0 where
   pub ready : IsReady q
-  pub ended : has_ended q.past ≡ has_ended p.past
   pub at : IsAt (resting race.lines q) q
   pub spares : (c : ℕ) → Spares c p.past q.past
   pub clients : KeepsClients p.past q.past
@@ -62,7 +61,6 @@ moves_on {W} heard race h q settings is runs keeps moves = record {
   full = not_full h q.past runs;
   well = λ none. record {
     ready = moves.ready;
-    running = moves.ended ∙ on.running;
     at = moves.at;
     fits = λ c. slot_stays heard race.telling race.made h.player.past q.past c (slot h.slots c) (find c h.out) (moves.spares c).journal (on.fits c);
     work = λ c work found. out_stays h.player q h.chore c work on.ready (moves.spares c) moves.clients (λ client. moves.leave client work.permit) (on.work c work found);
@@ -82,9 +80,11 @@ module _ (race : Terms) (p q : Playing) (kind : Event → ℕ → Type 0) (t : T
   group = grouped_of (resting race.lines p) p q kind t
 
   -- If the step sets no limit, the history keeps what it kept.
-  pub step_keeps : (settings : List Control) → ((past : List Event) → set_in (t.first ∷ past) ≡ set_in past) → Legal q.past → q.trimmed ≡ p.trimmed → Keeps race p settings → Keeps race q settings
-  step_keeps settings sets legal trimmed keeps = record {
+  pub step_keeps : (settings : List Control) → ((past : List Event) → set_in (t.first ∷ past) ≡ set_in past) → Legal q.past → q.trimmed ≡ p.trimmed → has_ended q.past ≡ has_ended p.past → Keeps race p settings
+      → Keeps race q settings
+  step_keeps settings sets legal trimmed ended keeps = record {
     legal = legal;
+    running = ended ∙ keeps.running;
     ordered = step_races race.run race.lines p q kind keeps.ordered t;
     whole = trimmed ∙ keeps.whole;
     settings = ap (λ limits. limits ++ settings) (step_sets p.past q.past t.first t.call group ∙ sets p.past) ∙ keeps.settings;
@@ -93,10 +93,9 @@ module _ (race : Terms) (p q : Playing) (kind : Event → ℕ → Type 0) (t : T
   }
 
   -- If it hears nothing, the player has gone on.
-  pub step_moves : ((c : ℕ) → hears_on c t.first ≡ false) → IsReady p → IsReady q → SameCourse p q → HearsNothing p.past q.past → KeepsLeave p.seats q.seats → MovesOn race p q
-  step_moves quiet ready ready_now course unheard leave = record {
+  pub step_moves : ((c : ℕ) → hears_on c t.first ≡ false) → IsReady p → IsReady q → HearsNothing p.past q.past → KeepsLeave p.seats q.seats → MovesOn race p q
+  step_moves quiet ready ready_now unheard leave = record {
     ready = ready_now;
-    ended = course.ended;
     at = step_rests race.lines p q kind t ready_now.legal.lawful;
     spares = λ c. spares_step c p.past q.past t.first t.call group ready_now.legal.lawful ready.legal.settled.nothing_owed (quiet c);
     clients = clients_step p.past q.past t.first t.call group;
@@ -138,8 +137,8 @@ module _ {W : Type 0} (heard : W → Option WireTold) (race : Terms) (h : InHall
   -- Over a step that hears nothing and sets no limit, after which no leave is lost.
   steps_on : (kind : Event → ℕ → Type 0) → (t : TakesStep (resting race.lines h.player) h.player q kind) → IsQuiet t.first → (seat h.player.seats client).permit ≡ None → IsHall heard race (record h { player = q })
   steps_on kind t quiet none =
-      moves_on heard race h q h.settings is runs (step_keeps race h.player q kind t h.settings quiet.sets acted.legal acted.trimmed is.keeps)
-      (step_moves race h.player q kind t quiet.hears on.ready acted.ready acted.course acted.unheard (leave_kept_but client h.player q acted.handed none))
+      moves_on heard race h q h.settings is runs (step_keeps race h.player q kind t h.settings quiet.sets acted.legal acted.trimmed acted.course.ended is.keeps)
+      (step_moves race h.player q kind t quiet.hears on.ready acted.ready acted.unheard (leave_kept_but client h.player q acted.handed none))
 
   -- A free client has entered its line.
   pub entered_on : is_busy client h.player.past ≡ false → ((m : Moment) → IsAt m h.player → TakesStep m h.player q (IsEntryOf client)) → IsHall heard race (record h { player = q })
@@ -157,6 +156,7 @@ module _ {W : Type 0} (heard : W → Option WireTold) (race : Terms) (h : InHall
       moves_on heard race h q h.settings is runs
       (record {
         legal = acted.legal;
+        running = acted.course.ended ∙ is.keeps.running;
         ordered = wakes_races false race.run race.lines n h.player q is.keeps.ordered w;
         whole = acted.trimmed ∙ is.keeps.whole;
         settings = ap (λ past. set_in past ++ h.settings) w.0 ∙ is.keeps.settings;
@@ -165,7 +165,6 @@ module _ {W : Type 0} (heard : W → Option WireTold) (race : Terms) (h : InHall
       })
       (record {
         ready = acted.ready;
-        ended = acted.course.ended;
         at = wakes_rests false race.lines n h.player q w acted.legal.lawful;
         spares = λ c. spares_same c h.player.past q.past w.0;
         clients = clients_same h.player.past q.past w.0;

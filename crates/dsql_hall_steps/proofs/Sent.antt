@@ -113,7 +113,6 @@ module _ {W : Type 0} (heard : W → Option WireTold) (race : Terms) (h : InHall
         full = is.full;
         well = λ none. record {
           ready = on.ready;
-          running = on.running;
           at = on.at;
           fits = sent_fits c work_of h.slots now h.out changes refl none_out empty heard race.telling race.made p.past refl on.fits;
           work = sent_work c work_of h.slots now h.out changes refl none_out empty p h.chore h.chore is_out (λ d it found out. out) on.work;

@@ -62,7 +62,7 @@ module _ {W : Type 0} (heard : W → Option WireTold) (race : Terms) (h : InHall
   -- The hall after that, with these limits to come. With those that were set they are the same as before.
   told_on : (later : List Control) → list_all sets_limit later ≡ true → set_in (told_after p.past control ∷ p.past) ++ later ≡ set_in p.past ++ h.settings → IsHall heard race (record h { player = q; settings = later })
   told_on later limits same =
-      moves_on heard race h q later is runs keeps (step_moves race p q (IsTold p.past control) t quiet on.ready set.ready set.course set.unheard (λ client permit has. set.handed.permit client ∙ has))
+      moves_on heard race h q later is runs keeps (step_moves race p q (IsTold p.past control) t quiet on.ready set.ready set.unheard (λ client permit has. set.handed.permit client ∙ has))
     where
       grown : set_in q.past ≡ set_in (told_after p.past control ∷ p.past)
       grown =
@@ -72,6 +72,7 @@ module _ {W : Type 0} (heard : W → Option WireTold) (race : Terms) (h : InHall
       keeps : Keeps race q later
       keeps = record {
         legal = set.legal;
+        running = set.course.ended ∙ is.keeps.running;
         ordered = step_races race.run race.lines p q (IsTold p.past control) is.keeps.ordered t;
         whole = set.trimmed ∙ is.keeps.whole;
         settings = ap (λ sets. sets ++ later) grown ∙ (same ∙ is.keeps.settings);

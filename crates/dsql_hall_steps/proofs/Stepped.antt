@@ -5,7 +5,9 @@ use Rattle.dsql_engine_laws.specs.history.declared.event.Event.{Event}
 use Rattle.dsql_engine_laws.specs.history.declared.event.Event.TheVariants.{Entered}
 use Rattle.dsql_engine_laws.specs.history.declared.event.Op.{Op}
 use Rattle.dsql_engine_laws.specs.history.Legal.{Lawful}
-use Rattle.dsql_engine_laws.specs.history.Readers.Clients.{made_by}
+use Rattle.dsql_engine_laws.specs.history.Readers.Calls.{is_busy}
+use Rattle.dsql_engine_laws.specs.history.Readers.Clients.{call_of, made_by}
+use Rattle.dsql_engine_laws.specs.laws_ends.Over.{may_move}
 use Rattle.dsql_engine_laws.specs.follows.Moments.{Moment}
 use Rattle.dsql_engine_laws.specs.laws_ends.Steps.{IsStep, begins_step_of}
 use Rattle.dsql_engine_laws.proofs.laws_ends.Steps.{entry_made_others, step_made}
@@ -15,7 +17,7 @@ use Rattle.dsql_player.specs.Stepping.{IsEntryOf, IsOfItself, TakesStep, Wakes}
 use Rattle.dsql_player.proofs.Grouped.{Grouped}
 use Rattle.dsql_player.proofs.Whose.{begins_itself}
 use Rattle.dsql_hall_steps.specs.Halls.{InHall}
-use Rattle.dsql_hall_steps.specs.Steps.{StepsOnce}
+use Rattle.dsql_hall_steps.specs.Steps.{EntersOrWakes, HasToWait, StepsOnce}
 use Rattle.dsql_hall_steps.proofs.Moving.{grouped_of}
 
 -- What the other clients made.
@@ -49,22 +51,38 @@ wakes_alone false me n m p q at wakes l other apart =
     ap (λ H. made_by H other) w.0
 
 -- A step that the history shows.
-pub shown : {W : Type 0} (me : ℕ) (h before : InHall W) (q : Playing) → h ≡ before → before.stopped ≡ None → MakesAlone me h.player.past q.past → length h.player.past < length q.past
-    → StepsOnce me before (record h { player = q })
-shown {W} me h before q was runs alone grows = record {
+pub shown : {W : Type 0} (me : ℕ) (h before : InHall W) (q : Playing) → h ≡ before → before.stopped ≡ None → MakesAlone me h.player.past q.past → EntersOrWakes me h.player q
+    → length h.player.past < length q.past → StepsOnce me before (record h { player = q })
+shown {W} me h before q was runs alone its grows = record {
   runs = ap (λ b. b.stopped) was ∙ runs;
   only = ap (λ (b : InHall W). record b { player = q }) was;
+  its = subst (λ b. EntersOrWakes me b.player q) was its;
   mine = subst (λ b. MakesAlone me b.player.past q.past) was alone;
   step = inl (subst (λ b. length b.player.past < length q.past) was grows);
 }
 
 -- A woken call shows in the history, or has leave.
-pub woken : {W : Type 0} (me : ℕ) (shows : Bool) (h before : InHall W) (q : Playing) → h ≡ before → before.stopped ≡ None → MakesAlone me h.player.past q.past → (shows ≡ true → length h.player.past < length q.past)
+pub woken : {W : Type 0} (me : ℕ) (shows : Bool) (h before : InHall W) (q : Playing) → h ≡ before → before.stopped ≡ None → MakesAlone me h.player.past q.past
+    → ((m : Moment) → IsAt m h.player → Wakes shows m (call_of h.player.past me) h.player q) → (shows ≡ true → length h.player.past < length q.past)
     → (shows ≡ false → is_some (seat q.seats me).permit ≡ true) → StepsOnce me before (record h { player = q })
-woken {W} me true h before q was runs alone grows leave = shown me h before q was runs alone (grows refl)
-woken {W} me false h before q was runs alone grows leave = record {
+woken {W} me true h before q was runs alone wakes grows leave = shown me h before q was runs alone (inr (true, wakes)) (grows refl)
+woken {W} me false h before q was runs alone wakes grows leave = record {
   runs = ap (λ b. b.stopped) was ∙ runs;
   only = ap (λ (b : InHall W). record b { player = q }) was;
+  its = subst (λ b. EntersOrWakes me b.player q) was (inr (false, wakes));
   mine = subst (λ b. MakesAlone me b.player.past q.past) was alone;
   step = inr (leave refl);
+}
+
+-- A call that has no leave and may not move has to wait.
+pub waits_for_turn : {W : Type 0} (me : ℕ) (h before : InHall W) → h ≡ before → before.stopped ≡ None → is_busy me before.player.past ≡ true → is_some (seat h.player.seats me).permit ≡ false
+    → may_move h.player.past h.player.flights (call_of h.player.past me) ≡ false → HasToWait me before before
+waits_for_turn me h before was runs busy parked still = record {
+  same = refl;
+  runs = runs;
+  busy = busy;
+  why = inr (
+    subst (λ b. is_some (seat b.player.seats me).permit ≡ false) was parked,
+    subst (λ b. may_move b.player.past b.player.flights (call_of b.player.past me) ≡ false) was still,
+  );
 }

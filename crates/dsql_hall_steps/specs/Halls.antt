@@ -92,17 +92,17 @@ pub record HouseIsOut (made : List Made) (past : List Event) (out : List Work) :
 -- Holds of a hall whose run goes on.
 pub record GoesOn {W : Type 0} (heard : W → Option WireTold) (race : Terms) (h : InHall W) : Type 0 where
   pub ready : IsReady h.player
-  pub running : has_ended h.player.past ≡ false
   pub at : IsAt (resting race.lines h.player) h.player
   pub fits : (c : ℕ) → SlotFits heard race.telling race.made h.player.past c (slot h.slots c) (find c h.out)
   pub work : (c : ℕ) (work : Work) → find c h.out ≡ Some work → IsOut h.player h.chore c work
   pub fleet : HouseIsOut race.made h.player.past h.out
 
--- Holds of a history in which the clients' lines enter in their order. The limits that were set, with those to come,
--- are the ones of the lines. Those before the first line of a client were set before any call entered. None of its
--- events was trimmed.
+-- Holds of a history in which the clients' lines enter in their order. Its run hasn't ended. The limits that were set,
+-- with those to come, are the ones of the lines. Those before the first line of a client were set before any call
+-- entered. None of its events was trimmed.
 pub record Keeps (race : Terms) (p : Playing) (left : List Control) : Type 0 where
   pub legal : Legal p.past
+  pub running : has_ended p.past ≡ false
   pub ordered : Races race.run race.lines p.past
   pub whole : p.trimmed ≡ 0
   pub settings : set_in p.past ++ left ≡ settings_of race.lines

@@ -5,7 +5,6 @@ use Rattle.dsql_engine_laws.specs.driver.Wires.{FleetTold, WireTold, connected_a
 use Rattle.dsql_engine_laws.specs.journal.declared.entry.Entry.{Entry}
 use Rattle.dsql_engine_laws.specs.history.declared.event.Control.{Control}
 use Rattle.dsql_engine_laws.specs.history.declared.event.Event.{Event}
-use Rattle.dsql_engine_laws.specs.history.Readers.Course.{has_ended}
 use Rattle.dsql_engine_laws.specs.history.Readers.Journals.{journal}
 use Rattle.dsql_engine_laws.specs.wire.Journaled.{Journaled}
 use Rattle.dsql_engine_laws.specs.wire.Told.{TellsOf}
@@ -91,7 +90,6 @@ pub record IsClosed {W : Type 0} (heard : W
     → Option WireTold) (race : Terms) (own : List Event) (p : Playing)
     (slots : List (Option (Journaled W))) : Type 0 where
   pub ready : IsReady p
-  pub running : has_ended p.past ≡ false
   pub at : IsAt (resting race.lines p) p
   pub wires : WiresFit heard race.telling p.past slots
   pub plans : PlansFit heard race.made p.past slots

@@ -14,10 +14,11 @@ use Rattle.dsql_hall_steps.specs.Halls.{InHall}
 use Rattle.dsql_hall_steps.specs.House.{ComesFirst, IsShutting}
 use Rattle.dsql_hall_steps.specs.Steps.{IsStill, Stops}
 
--- Holds if the first of the layer's own driver calls went out of the hall with this work. Its slot is empty from then
--- on, and nothing else changed.
+-- Holds if the first of the layer's own driver calls went out of the hall with this work, after all limits were set. Its
+-- slot is empty from then on, and nothing else changed.
 pub record TakesOut {W : Type 0} (work : Work) (before after : InHall W) : Type 0 where
   pub runs : before.stopped ≡ None
+  pub set : before.settings ≡ []
   pub due : chore_due before.player.past ≡ Some work.conn
   pub empty : slot after.slots work.conn ≡ None
   pub others : (c : ℕ) → c ≢ work.conn → slot after.slots c ≡ slot before.slots c
@@ -41,11 +42,15 @@ pub record SetsLimit {W : Type 0} (before after : InHall W) : Type 0 where
   pub first : ComesFirst control before.settings after.settings
   pub told : TellsPlayer control (record before { settings = after.settings }) after
 
--- Holds if nothing changed, and the house has to wait. A driver call of the layer is out, or a client may go on.
+-- Holds if nothing changed, and the house has to wait. Either a driver call of the layer is out. Or all limits were set,
+-- the layer has no driver call to make, and a client may go on.
 pub record HouseWaits {W : Type 0} (before after : InHall W) : Type 0 where
   pub same : after ≡ before
   pub runs : before.stopped ≡ None
-  pub why : (is_some before.chore ≡ true) ⊎ ((client : ℕ) × (goes before.player client ≡ true))
+  pub why : (is_some before.chore ≡ true)
+      ⊎ ((before.settings ≡ [])
+      × (chore_due before.player.past ≡ None)
+      × ((client : ℕ) × (goes before.player client ≡ true)))
 
 -- Holds if only the end is left: all limits were set, the layer has no driver call to make, and no client may go on.
 pub record HasRunOut {W : Type 0} (before after : InHall W) : Type 0 where

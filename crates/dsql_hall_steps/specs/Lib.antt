@@ -18,3 +18,4 @@ pub mod House
 pub mod Hearing
 pub mod Steps
 pub mod HouseSteps
+pub mod Waking

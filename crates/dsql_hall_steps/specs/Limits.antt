@@ -17,7 +17,7 @@ limit_of _ = None
 abbrev pub settings_of : List Line → List Control
 settings_of lines = filter_map limit_of lines
 
--- Is true if the line makes a call of a client.
+-- Is true if the line makes a call of a client. No line of a race holds a call.
 abbrev pub makes_call : Line → Bool
 makes_call (lines.Client client op) = true
 makes_call _ = false

@@ -1,6 +1,5 @@
 //! Opens a hall before the threads of its race, and closes it after them.
-ghost use Rattle.std.specs.Prelude.{◌≡◌, ◌≤◌, ◌∷◌, [], None, Some, false, length};
-ghost use Rattle.dsql_engine_laws.specs.history.Readers.Course.{has_ended};
+ghost use Rattle.std.specs.Prelude.{◌≡◌, ◌≤◌, ◌∷◌, [], None, Some, length};
 ghost use Rattle.dsql_engine_laws.specs.history.Readers.Journals.{journal};
 ghost use Rattle.dsql_engine_laws.specs.laws_steps.Groups.{most_events};
 ghost use Rattle.dsql_player_wires.specs.WiresFit.{PlansFit, WiresFit};
@@ -61,7 +60,6 @@ impl<K: Race, W: Wire> Hall<K, W> {
         requires cell { cell.now ≡ K.cell }
         requires none { keeper ≡ [] }
         requires ready { IsReady player }
-        requires running { has_ended player.past ≡ false }
         requires at { IsAt (resting K.terms.lines player) player }
         requires keeps { Keeps K.terms player settings.items }
         requires wires { WiresFit W.told K.terms.telling player.past wires }

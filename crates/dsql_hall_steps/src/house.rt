@@ -104,6 +104,7 @@ impl<K: Race, W: Wire> Hall<K, W> {
         requires cell { cell.now ≡ K.cell }
         requires goes_on { self.old.stopped ≡ None }
         requires free { self.old.chore ≡ None }
+        requires set { self.old.settings ≡ [] }
         requires first { chore_due self.old.player.past ≡ Some permit.conn }
         requires due { chore_permit self.old.player.past permit.conn ≡ Some permit }
         requires kind { is_connect permit.call ≡ false → is_shut permit.call ≡ false → ⊥ }
@@ -121,6 +122,7 @@ impl<K: Race, W: Wire> Hall<K, W> {
         requires cell { cell.now ≡ K.cell }
         requires goes_on { self.old.stopped ≡ None }
         requires free { self.old.chore ≡ None }
+        requires set { self.old.settings ≡ [] }
         requires first { chore_due self.old.player.past ≡ Some permit.conn }
         requires due { chore_permit self.old.player.past permit.conn ≡ Some permit }
         requires connects { is_connect permit.call ≡ true }
@@ -145,6 +147,7 @@ impl<K: Race, W: Wire> Hall<K, W> {
         requires cell { cell.now ≡ K.cell }
         requires goes_on { self.old.stopped ≡ None }
         requires free { self.old.chore ≡ None }
+        requires set { self.old.settings ≡ [] }
         requires first { chore_due self.old.player.past ≡ Some permit.conn }
         requires due { chore_permit self.old.player.past permit.conn ≡ Some permit }
         requires shuts { is_shut permit.call ≡ true }

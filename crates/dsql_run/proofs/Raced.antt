@@ -14,7 +14,7 @@ use Rattle.dsql_run_outcome.specs.history.Rules.House.{is_quiet}
 use Rattle.dsql_run_outcome.specs.follows.declared.line.Line.{Line}
 use Rattle.dsql_run_outcome.specs.follows.Moments.{Moment, at_end, just_begun}
 use Rattle.dsql_run_outcome.specs.laws_steps.Groups.{most_events}
-use Rattle.dsql_run_outcome.specs.hall.Raced.{RacesInPart, RacesThrough, SetsSome, plans_first}
+use Rattle.dsql_run_outcome.specs.hall.Raced.{RacesInPart, RacesThrough, SetsSome, ends_last, plans_first}
 use Rattle.dsql_run_outcome.specs.hall.laws_ends.Over.{IsOver as HasNothingLeft}
 use Rattle.dsql_run_outcome.specs.hall.hall_steps.Limits.{SetsFirst, are_set_first, set_in, settings_first, settings_of}
 use Rattle.dsql_run_outcome.specs.hall.hall_steps.Racing.{Races, resting}
@@ -29,6 +29,7 @@ use Rattle.dsql_run_outcome.specs.script_source.declared.stop.Stop.TheVariants.{
 use Rattle.dsql_run_outcome.specs.script_source.Stops.{IsReadStop}
 use Rattle.dsql_run_outcome.specs.Racing.{LinesRaced, met_all}
 use Rattle.dsql_run_outcome.specs.Runs.{ran_out, stop_of, stop_of_halt}
+use Rattle.dsql_run_outcome.proofs.hall.Last.{not_ended}
 use Rattle.dsql_run_outcome.proofs.hall.hall_steps.Beginning.{first_races}
 use Rattle.dsql_run.proofs.Going.{full_halt, halt_runs_out}
 
@@ -61,18 +62,21 @@ none_raced caps script past begun = record {
   some = first_past caps script past begun;
   settings = record { left = settings_of script; whole = ap (λ h. set_in h ++ settings_of script) begun };
   first = none_before (length (settings_first script)) caps past begun;
+  last = ap (ends_last script) begun;
 }
 
 -- A race that had to stop as its first limits were set.
 pub early_part : (caps : Caps) (script : List Line) (old new : List Event) (front more : List Control) → old ≡ Run 1 caps ∷ [] → front ++ more ≡ settings_of script → ((run : Event) → Races run script old → Races run script new)
-    → SetsSome (set_in old ++ front) new → ((many : ℕ) → are_set_first many old ≡ true → are_set_first many new ≡ true) → RacesInPart (Run 1 caps) script new
-early_part caps script old new front more begun all races some before =
+    → SetsSome (set_in old ++ front) new → ((many : ℕ) → are_set_first many old ≡ true → are_set_first many new ≡ true) → has_ended new ≡ has_ended old
+    → RacesInPart (Run 1 caps) script new
+early_part caps script old new front more begun all races some before ended =
     let first : SetsSome front new = subst (λ (h : List Event). SetsSome (set_in h ++ front) new) begun some in
     let many = length (settings_first script) in
     record {
       some = races (Run 1 caps) (first_past caps script old begun);
       settings = subst (λ settings. SetsSome settings new) all (sets_more front more new first);
       first = before many (none_before many caps old begun);
+      last = not_ended script new (ended ∙ ap has_ended begun);
     }
 
 -- After the limits that stand first were set, they were set before each call.

@@ -1,9 +1,9 @@
-use Rattle.std.proofs.Common.{reverse, refl, ◌∙◌}
+use Rattle.std.proofs.Common.{reverse, ◌∙◌}
 use Rattle.std.proofs.lemmas.Result.{on_ok_weaker}
 use Rattle.dsql_hall_steps.specs.Racing.{resting}
 use Rattle.dsql_hall_steps.proofs.Ending.{end_races}
 use Rattle.dsql_hall_steps.proofs.player.Keeping.{run_after}
-use Rattle.dsql_hall.proofs.Last.{ends_at_last}
+use Rattle.dsql_hall.proofs.Last.{ended_last, not_ended}
 use Rattle.dsql_hall.proofs.Setting.{end_sets, ended_first, ended_races, ended_settings}
 use Rattle.dsql_hall.proofs.ending.run_through.Goals as goal
 
@@ -40,14 +40,13 @@ returns-clause-first g c =
     ended_first c.carry_end.result (reverse c.args.lines.now.items) c.args.player.now c.set_limits.new.player c.carry_end.new.player.past c.set_limits.ensures.sets.grows c.in_ok-set_limits.ensures.at c.carry_end.ensures.carries
     c.carry_end.ensures.stops
 
+pub returns-in_err-set_limits-clause-last : goal.returns-in_err-set_limits-clause-last
+returns-in_err-set_limits-clause-last g c = λ all. not_ended (reverse c.args.lines.now.items) c.set_limits.new.player.past (c.set_limits.ensures.sets.ended ∙ c.requires.running)
+
 pub returns-clause-last : goal.returns-clause-last
-returns-clause-last g c =
-    let script = reverse c.args.lines.now.items in
-    let mid = c.set_limits.new.player in
-    on_ok_weaker c.carry_end.result
-    (λ carries all. ends_at_last (resting script mid) script c.carry_end.new.player.past refl (c.set_limits.ensures.sets.ended ∙ c.requires.running) (c.in_ok-set_limits.ensures.set ∙ all)
-    (carries (resting script mid) c.in_ok-set_limits.ensures.at))
-    c.carry_end.ensures.carries
+returns-clause-last g c = λ all.
+    ended_last c.carry_end.result (reverse c.args.lines.now.items) c.set_limits.new.player c.carry_end.new.player.past c.in_ok-set_limits.ensures.at (c.set_limits.ensures.sets.ended ∙ c.requires.running) (c.in_ok-set_limits.ensures.set ∙ all)
+    c.carry_end.ensures.carries c.carry_end.ensures.stops
 
 pub returns-clause-told : goal.returns-clause-told
 returns-clause-told g c =

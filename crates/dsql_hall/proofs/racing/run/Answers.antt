@@ -8,6 +8,7 @@ use Rattle.dsql_hall.proofs.racing.run.Goals as goal
 pub open-hall-requires-clause-keeps : goal.open-hall-requires-clause-keeps
 open-hall-requires-clause-keeps g c = λ κs h. record {
   legal = c.requires.ready.legal;
+  running = c.requires.running;
   ordered = c.requires.races;
   whole = c.requires.whole;
   settings = c.requires.limits;

@@ -51,6 +51,6 @@ returns-in-Err-clause-raced g c = λ first was.
     let script = reverse c.args.lines.items in
     halted_race c.in-Err.halt (Run 1 caps) script c.set_limits.new.player.past first (g.F.Fleet.told c.args.fleet.now)
     (early_part caps script c.args.player.past c.set_limits.new.player.past c.args.limits.first.items c.args.limits.later.items c.requires.begun c.requires.limits c.set_limits.ensures.sets.races
-    c.set_limits.ensures.sets.settings c.set_limits.ensures.sets.first)
+    c.set_limits.ensures.sets.settings c.set_limits.ensures.sets.first c.set_limits.ensures.sets.ended)
     c.set_limits.ensures.sets.legal
     (λ is. c.in-Err.ensures.full cc)

@@ -1,4 +1,4 @@
-use Rattle.std.proofs.Common.{ap, ◌∙◌}
+use Rattle.std.proofs.Common.{ap, inl, ◌∙◌}
 use Rattle.dsql_engine_laws.specs.history.Readers.Calls.{is_busy}
 use Rattle.dsql_hall_steps.proofs.Moving.{entered_on}
 use Rattle.dsql_hall_steps.proofs.Stepped.{enters_alone, shown}
@@ -23,4 +23,4 @@ pub returns-in-Ok : goal.returns-in-Ok
 returns-in-Ok g c =
     let on = c.self.invariant.well (ap (λ h. h.stopped) c.self.view_is ∙ c.requires.runs) in
     let alone = enters_alone c.args.client _ _ _ on.at c.in-Ok.ensures.enters c.in-Ok.ensures.act.legal.lawful in
-    record { next = shown _ _ _ _ c.self.view_is c.requires.runs alone c.in-Ok.ensures.grows }
+    record { next = shown _ _ _ _ c.self.view_is c.requires.runs alone (inl c.in-Ok.ensures.enters) c.in-Ok.ensures.grows }

@@ -10,4 +10,4 @@ send_chore-requires-clause-first g c κs within = ap (λ p. chore_due p.past) c.
 pub send_chore-requires-clause-kind : goal.send_chore-requires-clause-kind
 send_chore-requires-clause-kind g c κs within =
     let on = c.self.invariant.well (none_of _ (sym c.is_some.ensures ∙ c.if-is_some.false)) in
-    connects_or_shuts _ _ c.in-Some-chore.permit on.ready.legal.lawful on.running c.in-Some-chore.ensures.some.1
+    connects_or_shuts _ _ c.in-Some-chore.permit on.ready.legal.lawful c.self.invariant.keeps.running c.in-Some-chore.ensures.some.1

@@ -31,7 +31,7 @@ pub returns : goal.returns
 returns g c =
     let may = may_go_out _ _ _ _ c.args.permit c.self.invariant c.self.view_is c.requires.goes_on c.requires.free c.requires.due (omega arith) in
     record {
-      does = taken_out _ _ c.args.permit _ _ _ c.self.view_is c.requires.goes_on c.requires.first c.tie-bond.ensures.bond c.tie-bond.ensures.out
+      does = taken_out _ _ c.args.permit _ _ _ c.self.view_is c.requires.goes_on c.requires.set c.requires.first c.tie-bond.ensures.bond c.tie-bond.ensures.out
           (record { others = λ d apart. c.make_room.ensures.same d; many = c.make_room.ensures.many })
           (c.make_room.ensures.same c.args.permit.conn ∙ no_wire _ _ _ _ may c.requires.connects);
     }

@@ -34,7 +34,7 @@ returns g c =
     let changes = slot_emptied _ _ _ c.take-wire.ensures.after in
     record {
       does = (
-        taken_out _ _ c.args.permit _ _ _ c.self.view_is c.requires.goes_on c.requires.first c.tie-bond.ensures.bond c.tie-bond.ensures.out changes.0 changes.1,
+        taken_out _ _ c.args.permit _ _ _ c.self.view_is c.requires.goes_on c.requires.set c.requires.first c.tie-bond.ensures.bond c.tie-bond.ensures.out changes.0 changes.1,
         shutting_is _ _ _ _ may c.requires.shuts _ c.tie-bond.ensures.bond,
         shut_out _ _ c.args.permit _ _ c.self.view_is c.tie-bond.ensures.bond c.take-wire.ensures.wire,
       );

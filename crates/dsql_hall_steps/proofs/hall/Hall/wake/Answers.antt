@@ -30,4 +30,4 @@ pub returns-in-Ok : goal.returns-in-Ok
 returns-in-Ok g c =
     let on = c.self.invariant.well (ap (λ h. h.stopped) c.self.view_is ∙ c.requires.runs) in
     let alone = wakes_alone _ c.args.client _ _ _ _ on.at c.in-Ok.ensures.wakes c.in-Ok.ensures.act.legal.lawful in
-    record { next = woken _ _ _ _ _ c.self.view_is c.requires.runs alone c.in-Ok.ensures.grows c.in-Ok.ensures.leave }
+    record { next = woken _ _ _ _ _ c.self.view_is c.requires.runs alone c.in-Ok.ensures.wakes c.in-Ok.ensures.grows c.in-Ok.ensures.leave }
