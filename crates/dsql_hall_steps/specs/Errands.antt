@@ -57,9 +57,9 @@ pub record IsBack {W : Type 0} (heard : W
   pub fits : fits_at_its_place (journal it.work.past it.work.permit.conn) it.entry ≡ true
   pub journal : it.wire.journal ≡ it.entry ∷ journal it.work.past it.work.permit.conn
 
--- Holds of an errand and of what came back of it without an answer. Either the judge had no room for the answer, and the
--- driver wasn't asked. Then the wire has heard and recorded what it had before. Or the driver answered Memory, and its
--- record shows that.
+-- Holds of an errand and of what came back of it without an answer. Either the judge had no room for the answer, and
+-- the driver wasn't asked. Then the wire has heard and recorded what it had before. Or the driver answered Memory, and
+-- its record shows that.
 abbrev pub LacksAnswer : {W : Type 0} → (W → Option WireTold) → Sent W → Sent W → Type 0
 LacksAnswer heard before after =
     ((before.wire.spare ≡ 0) × SameHeard heard before.wire after.wire)

@@ -14,8 +14,8 @@ use Rattle.dsql_hall_steps.specs.Halls.{InHall}
 use Rattle.dsql_hall_steps.specs.House.{ComesFirst, IsShutting}
 use Rattle.dsql_hall_steps.specs.Steps.{IsStill, Stops}
 
--- Holds if the first of the layer's own driver calls went out of the hall with this work, after all limits were set. Its
--- slot is empty from then on, and nothing else changed.
+-- Holds if the first of the layer's own driver calls went out of the hall with this work, after all limits were set.
+-- Its slot is empty from then on, and nothing else changed.
 pub record TakesOut {W : Type 0} (work : Work) (before after : InHall W) : Type 0 where
   pub runs : before.stopped ≡ None
   pub set : before.settings ≡ []
@@ -42,8 +42,8 @@ pub record SetsLimit {W : Type 0} (before after : InHall W) : Type 0 where
   pub first : ComesFirst control before.settings after.settings
   pub told : TellsPlayer control (record before { settings = after.settings }) after
 
--- Holds if nothing changed, and the house has to wait. Either a driver call of the layer is out. Or all limits were set,
--- the layer has no driver call to make, and a client may go on.
+-- Holds if nothing changed, and the house has to wait. Either a driver call of the layer is out. Or all limits were
+-- set, the layer has no driver call to make, and a client may go on.
 pub record HouseWaits {W : Type 0} (before after : InHall W) : Type 0 where
   pub same : after ≡ before
   pub runs : before.stopped ≡ None

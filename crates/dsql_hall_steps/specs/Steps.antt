@@ -34,8 +34,8 @@ EntersOrWakes me before after =
     ((m : Moment) → IsAt m before → TakesStep m before after (IsEntryOf me))
     ⊎ ((shows : Bool) × ((m : Moment) → IsAt m before → Wakes shows m (call_of before.past me) before after))
 
--- Holds if the client took a step, and nothing else changed. It entered a line, or its call was woken. The history shows
--- it, or the client has leave for its driver call. No other client made a call.
+-- Holds if the client took a step, and nothing else changed. It entered a line, or its call was woken. The history
+-- shows it, or the client has leave for its driver call. No other client made a call.
 pub record StepsOnce {W : Type 0} (me : ℕ) (before after : InHall W) : Type 0 where
   pub runs : after.stopped ≡ None
   pub only : after ≡ record before { player = after.player }

@@ -23,7 +23,7 @@ client_may_go_on me h =
     || may_move h.player.past h.player.flights (call_of h.player.past me)
 
 -- Is true if the house may go on. The run has stopped, or only the end is left. Or none of the layer's own driver calls
--- is out, and the run has no room for more events, a limit is to be set, or such a driver call is to be made.
+-- is out, and it has a step to take. The run has no room for events, a limit is to be set, or a driver call is due.
 abbrev pub house_may_go_on : {W : Type 0} → InHall W → Bool
 house_may_go_on h =
     is_some h.stopped

@@ -65,6 +65,8 @@ impl<K: Race, W: Wire> Hall<K, W> {
     pub fn has_moved(&self, seen: usize) -> bool
         ensures { result ≡ has_moved seen self.now }
     {
-        after(self.player.history(), seen).iter().any(|event| frees_others(event))
+        after(self.player.history(), seen)
+            .iter()
+            .any(|event| frees_others(event))
     }
 }
