@@ -19,7 +19,7 @@ use Rattle.dsql_hall_steps.specs.Limits.{SetsFirst, are_set_first, set_in, setti
 use Rattle.dsql_hall_steps.specs.Racing.{Races, RacesAll}
 use Rattle.dsql_hall_steps.specs.Terms.{Terms}
 use Rattle.dsql_hall.specs.Ends.{EndsRace}
-use Rattle.dsql_hall.specs.Raced.{SetsSome, ends_last}
+use Rattle.dsql_hall.specs.Raced.{RacesInPart, SetsSome, ends_last}
 use Rattle.dsql_hall.proofs.Last.{not_ended}
 
 -- What is true anyway is true on success.
@@ -27,17 +27,17 @@ pub ok_so : {A E : Type 0} (r : Result A E) (P : Type 0) → P → OnOk r P
 ok_so (Ok a) P p = p
 ok_so (Err e) P p = tt
 
+-- A race whose run hasn't ended is a race in part.
+pub unended : (run : Event) (lines : List Line) (left : List Control) (past : List Event) → Races run lines past → set_in past ++ left ≡ settings_of lines → SetsFirst (length (settings_first lines)) past → has_ended past ≡ false
+    → RacesInPart run lines past
+unended run lines left past ordered sets first running = record { some = ordered; settings = record { left = left; whole = sets }; first = first.before; last = not_ended lines past running }
+
 -- A race that stopped before its end is a race in part.
 pub halted : (race : Terms) (halt : Halt) (left : List Control) (p : Playing) → Keeps race p left → (halt ≡ Full → most_events ≤ length p.past)
     → EndsRace race.run race.lines (Err halt) p
 halted race halt left p keeps full = record {
   through = tt;
-  in_part = record {
-    some = keeps.ordered;
-    settings = record { left = left; whole = keeps.settings };
-    first = keeps.first.before;
-    last = not_ended race.lines p.past keeps.running;
-  };
+  in_part = unended race.run race.lines left p.past keeps.ordered keeps.settings keeps.first keeps.running;
   over = tt;
   ended = tt;
   quiet = tt;
