@@ -1,6 +1,6 @@
 -- What is true of a race that is over. The argument takes each part from what the threads left, and from what the end
 -- of the run adds to it.
-use Rattle.std.proofs.Common.{◌≡◌, ◌≤◌, ℕ, true, List, ◌++◌, Option, Some, None, Result, Ok, Err, ap, sym, subst, ◌∙◌, length}
+use Rattle.std.proofs.Common.{◌≡◌, ◌≤◌, ℕ, true, false, List, ◌++◌, Option, Some, None, Result, Ok, Err, ap, sym, subst, ◌∙◌, length}
 use Rattle.std.specs.Prelude.{OnOk, unwrap_or}
 use Rattle.dsql_hall_steps.specs.history.declared.event.Control.{Control}
 use Rattle.dsql_hall_steps.specs.history.declared.event.Event.{Event}
