@@ -8,6 +8,7 @@ pub mod Works
 pub mod Journals
 pub mod Labels
 pub mod Transactions
+pub mod Pins
 pub mod Lines
 pub mod Decisions
 pub mod Calls

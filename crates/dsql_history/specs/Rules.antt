@@ -10,6 +10,7 @@ pub mod Order
 pub mod Causes
 pub mod Sent
 pub mod Ending
+pub mod Pinned
 pub mod Line
 pub mod Journals
 pub mod House

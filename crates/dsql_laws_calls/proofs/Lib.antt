@@ -29,6 +29,7 @@ pub mod Enders
 pub mod Plain
 pub mod Makers
 pub mod Begun
+pub mod Scopes
 pub mod AtEnd
 pub mod Lines
 pub mod Own
@@ -36,6 +37,8 @@ pub mod Idle
 pub mod Told
 pub mod Nowhere
 pub mod TxEnders
+pub mod Wanters
+pub mod Pinnings
 pub mod Ends
 pub mod Tidying
 pub mod Tenures
@@ -60,5 +63,4 @@ pub mod RowsNew
 pub mod Spared
 pub mod Unspoilt
 pub mod FirstAnswers
-pub mod Wanters
 pub mod Itself

@@ -5,6 +5,8 @@ pub enum Kind {
     Rows,
     /// A transaction.
     Transaction,
+    /// A pin, which is a connection that a client keeps.
+    Pin,
 }
 
 impl Kind {
@@ -18,6 +20,7 @@ impl Kind {
         match self {
             Kind::Rows => matches!(other, Kind::Rows),
             Kind::Transaction => matches!(other, Kind::Transaction),
+            Kind::Pin => matches!(other, Kind::Pin),
         }
     }
 }
