@@ -42,7 +42,7 @@ use Rattle.dsql_laws_calls.proofs.Coming.{sound}
 use Rattle.dsql_laws_calls.proofs.Ends.{zero_work}
 use Rattle.dsql_laws_calls.proofs.Lent.{lent_before}
 use Rattle.dsql_laws_calls.proofs.Looks.{comes, heard_there}
-use Rattle.dsql_laws_calls.proofs.Makers.{hands_out, rows_begin_nothing, rows_hand_out}
+use Rattle.dsql_laws_calls.proofs.Makers.{hands_out, rows_start_nothing, rows_hand_out}
 use Rattle.dsql_laws_calls.proofs.Own.{own_way, OwnWay}
 use Rattle.dsql_laws_calls.proofs.Owners.{lent_number}
 use Rattle.dsql_laws_calls.proofs.Plain.{begins, line_plain}
@@ -152,7 +152,7 @@ module _ (H : List Event) (e : Entry) (l : Lawful (Heard e ∷ H)) (numbered : (
     where
       by : (b : Bool) → is_call own.owner ≡ b → b ≡ true
       by true is = refl
-      by false is = clash (sym (owner_begins H e.conn e.tenure own.owner l.0 own.lent is) ∙ (ap (λ j. begins (work H j)) own.own ∙ rows_begin_nothing (Heard e ∷ H) e.call_no made))
+      by false is = clash (sym (owner_begins H e.conn e.tenure own.owner l.0 own.lent is) ∙ (ap (λ j. begins (work H j)) own.own ∙ rows_start_nothing (Heard e ∷ H) e.call_no made))
 
   served_there : was_served (tries H e.call_no) ≡ true
   served_there = subst (λ j. was_served (tries H j) ≡ true) own.own (lent_served H e.conn e.tenure own.owner l.0 own.lent (none_bad H e own.owner l.0 may own.lent for_itself))

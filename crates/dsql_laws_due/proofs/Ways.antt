@@ -43,7 +43,7 @@ use Rattle.dsql_laws_calls.specs.history.Legal.{Lawful}
 use Rattle.dsql_laws_tenures.specs.Tenures.{made_by}
 use Rattle.dsql_laws_calls.proofs.Owners.{at_home, owner_is_of}
 use Rattle.dsql_laws_calls.proofs.Plain.{begins}
-use Rattle.dsql_laws_calls.proofs.Makers.{hands_out, rows_hand_out, sent_made, rows_begin_nothing}
+use Rattle.dsql_laws_calls.proofs.Makers.{hands_out, rows_hand_out, sent_made, rows_start_nothing}
 use Rattle.dsql_laws_calls.proofs.Begun.{over_begun}
 use Rattle.dsql_laws_calls.proofs.Lines.{line_there, line_here}
 use Rattle.dsql_laws_calls.proofs.Own.{some_due, DueNow, due_now, due_of}
@@ -298,7 +298,7 @@ layer_way H e own l f kept d same other elsewhere due = by (is_begun H (number_o
     ended false x = absurd cc
 
     over_rows : (b : Bool) → are_over H (number_of own) ≡ b → is_due (cond b (line_of H (number_of own) wishes.Close) None) e.call ≡ true → TxWay H e.conn e.tenure own e.call_no e.call
-    over_rows true gone x = clash (sym begin ∙ rows_begin_nothing H (number_of own) (over_some (rows_by H (number_of own)) gone))
+    over_rows true gone x = clash (sym begin ∙ rows_start_nothing H (number_of own) (over_some (rows_by H (number_of own)) gone))
     over_rows false gone x = absurd cc
 
     closed : (b : Bool) → is_due (cond b (close_due H (number_of own)) None) e.call ≡ true → TxWay H e.conn e.tenure own e.call_no e.call

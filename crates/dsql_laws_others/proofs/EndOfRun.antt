@@ -36,7 +36,7 @@ use Rattle.dsql_laws_calls.proofs.Coming.{sound}
 use Rattle.dsql_laws_calls.proofs.EndedRows.{rows_at_end_of}
 use Rattle.dsql_laws_calls.proofs.Inside.{live_goes}
 use Rattle.dsql_laws_calls.proofs.LiveRows.{live_some}
-use Rattle.dsql_laws_calls.proofs.Makers.{rows_begin_nothing}
+use Rattle.dsql_laws_calls.proofs.Makers.{rows_start_nothing}
 use Rattle.dsql_laws_calls.proofs.Plain.{begins}
 use Rattle.dsql_laws_calls.proofs.Rows.{none_at_end}
 use Rattle.dsql_laws_calls.proofs.UnderWay.{Facts, ending_over}
@@ -162,7 +162,7 @@ live_end H x lives = by_rest K j (sent (is_begun K j) refl)
         left_over K j (rows_by K j) (gone (rows_turn H j)) (ap (λ d. is_some d) (same_line H j wishes.Close l) ∙ live_closes H x.conn x.tenure x.owner l.0 x.lent lives)
     sent true is =
         let l = x.lawful in
-        absurd (true_false (begins (work H j)) (begun_begins H j l.0 (sym (same_begun H j) ∙ is)) (rows_begin_nothing H j (live_some (rows_by H j) lives)))
+        absurd (true_false (begins (work H j)) (begun_begins H j l.0 (sym (same_begun H j) ∙ is)) (rows_start_nothing H j (live_some (rows_by H j) lives)))
 
 rest_end : (H : List Event) (x : LentAtEnd H) → are_live H (number_of x.owner) ≡ false → is_some (rest H (number_of x.owner)) ≡ true → is_used (Ended ∷ H) (number_of x.owner) ≡ true
 rest_end H x dead h = by_rest K j (ap (λ b. is_some (cond b (ending K j) (rest_with K j (rows_by K j)))) (same_begun H j) ∙ by (is_begun H j) h)

@@ -67,7 +67,7 @@ use Rattle.dsql_laws_calls.proofs.Lent.{Lends, lent_before, stays_lent}
 use Rattle.dsql_laws_calls.proofs.Lines.{line_here}
 use Rattle.dsql_laws_calls.proofs.LiveRows.{dead_over, live_not_over, live_some}
 use Rattle.dsql_laws_calls.proofs.Looks.{heard_there}
-use Rattle.dsql_laws_calls.proofs.Makers.{hands_out, rows_begin_nothing, rows_hand_out, sent_made, some_heard}
+use Rattle.dsql_laws_calls.proofs.Makers.{hands_out, rows_start_nothing, rows_hand_out, sent_made, some_heard}
 use Rattle.dsql_laws_calls.proofs.Own.{DueNow, asks_own, due_now, due_of, some_due}
 use Rattle.dsql_laws_calls.proofs.Owners.{at_home, lent_asks, lent_number, owner_is_of}
 use Rattle.dsql_laws_calls.proofs.Plain.{begins, line_plain}
@@ -112,7 +112,7 @@ hands_itself H c t own x = by (work H (number_of own)) (rows_hand_out H (number_
     by w h k = absurd cc
 
 unbegun : (H : List Event) (c t : ℕ) (own : Owner) → LiveAt H c t own → is_begun H (number_of own) ≡ true → ⊥
-unbegun H c t own x begun = true_false (begins (work H (number_of own))) (begun_begins H (number_of own) x.lawful begun) (rows_begin_nothing H (number_of own) (live_some (rows_by H (number_of own)) x.lives))
+unbegun H c t own x begun = true_false (begins (work H (number_of own))) (begun_begins H (number_of own) x.lawful begun) (rows_start_nothing H (number_of own) (live_some (rows_by H (number_of own)) x.lives))
 
 abbrev Holds : List Event → Type 0
 Holds H = (c t : ℕ) (own : Owner) → place H c ≡ Some (Lent t own) → is_call own ≡ true → are_live H (number_of own) ≡ true → is_holding (step (heard_in H c t)) ≡ true
@@ -453,7 +453,7 @@ live_closes H c t own l at lives = by (is_call own) refl
 
     by : (b : Bool) → is_call own ≡ b → is_some (line_of H (number_of own) wishes.Close) ≡ true
     by true call = closed (record { lawful = l; lent = at; call = call; lives = lives })
-    by false other = absurd (true_false (begins (work H (number_of own))) (begins_it own (owner_is_of H c t own l at) other) (rows_begin_nothing H (number_of own) (live_some (rows_by H (number_of own)) lives)))
+    by false other = absurd (true_false (begins (work H (number_of own))) (begins_it own (owner_is_of H c t own l at) other) (rows_start_nothing H (number_of own) (live_some (rows_by H (number_of own)) lives)))
       where
         begins_it : (o : Owner) → (is_house o ≡ false) × (o ≡ owner_of H (number_of own)) → is_call o ≡ false → begins (work H (number_of own)) ≡ true
         begins_it o its k = of (work H (number_of own)) (sym (ap is_call its.1) ∙ k)

@@ -34,7 +34,7 @@ use Rattle.dsql_laws_calls.specs.history.Legal.{Lawful}
 use Rattle.dsql_laws_calls.proofs.Begun.{begun_begins, over_begun}
 use Rattle.dsql_laws_calls.proofs.Coming.{sound}
 use Rattle.dsql_laws_calls.proofs.LiveRows.{live_some}
-use Rattle.dsql_laws_calls.proofs.Makers.{rows_begin_nothing}
+use Rattle.dsql_laws_calls.proofs.Makers.{rows_start_nothing}
 use Rattle.dsql_laws_calls.proofs.Plain.{begins}
 use Rattle.dsql_laws_calls.proofs.Sound.{Sound}
 use Rattle.dsql_laws_calls.proofs.TxEnders.{same_going}
@@ -156,7 +156,7 @@ used_same H client n op x txs = by (rows_turn H client n op (number_of x.owner))
             begins_none begun =
                 let e = x.entry in
                 let l = e.lawful in
-                let none = rows_begin_nothing H j (live_some (rows_by H j) lives) in
+                let none = rows_start_nothing H j (live_some (rows_by H j) lives) in
                 true_false (begins (work H j)) (begun_begins H j l.0 begun) none
 
     by : Turns (rows_by H (number_of x.owner)) (rows_by (enters H client n op) (number_of x.owner)) → is_used (enters H client n op) (number_of x.owner) ≡ is_used H (number_of x.owner)

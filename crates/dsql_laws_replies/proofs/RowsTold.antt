@@ -42,7 +42,7 @@ use Rattle.dsql_laws_calls.proofs.CallTenures.{call_line, line_of_call, plain_du
 use Rattle.dsql_laws_calls.proofs.Coming.{sound}
 use Rattle.dsql_laws_calls.proofs.Lines.{line_there}
 use Rattle.dsql_laws_calls.proofs.Looks.{comes, heard_there}
-use Rattle.dsql_laws_calls.proofs.Makers.{hands_no_look, hands_out, rows_begin_nothing, rows_hand_out, some_changed, some_heard}
+use Rattle.dsql_laws_calls.proofs.Makers.{hands_no_look, hands_out, rows_start_nothing, rows_hand_out, some_changed, some_heard}
 use Rattle.dsql_laws_calls.proofs.Own.{own_way}
 use Rattle.dsql_laws_calls.proofs.Plain.{line_plain}
 use Rattle.dsql_laws_calls.proofs.RowsNew.{held, were_made}
@@ -95,7 +95,7 @@ own_over H e l numbered own some =
     sent owner lent its due =
         let n = number_of owner in
         let made : is_some (rows_by H n) ≡ true = ap (λ j. is_some (rows_by H j)) its ∙ some in
-        let call = plain_call H e.conn e.tenure owner l.0 lent (rows_begin_nothing H n made) in
+        let call = plain_call H e.conn e.tenure owner l.0 lent (rows_start_nothing H n made) in
         let L = heard_in H e.conn e.tenure in
         let asked = asked_by H n in
         let cursor = some_of (own_cursor (exchanges L)) (held H e.conn e.tenure owner l.0 lent made) in
