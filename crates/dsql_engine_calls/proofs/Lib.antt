@@ -1,5 +1,6 @@
 pub mod KeptTries
 pub mod MovesMade
+pub mod Pins
 pub mod Borrowers
 pub mod CallRows
 pub mod Settled
