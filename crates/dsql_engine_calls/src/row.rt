@@ -6,7 +6,7 @@ ghost use Rattle.dsql_engine_calls.specs.Calls.{begins_on, borrower, borrower_as
 ghost use Rattle.dsql_engine_calls.specs.Settling.{told_last, told_served, told_trying};
 ghost use Rattle.dsql_history.specs.Readers.Decisions.{reply_to};
 ghost use Rattle.dsql_history.specs.Readers.Tries.{tries_again};
-ghost use Rattle.dsql_history.specs.Readers.Works.{aim_of, asks, hands_out_in, is_fetch, owner_as, scope};
+ghost use Rattle.dsql_history.specs.Readers.Works.{aim_of, asks, closing_of, hands_out_in, inside, is_fetch, owner_as, scope};
 
 use crate::call::CallRow;
 use crate::tried::Tried;
@@ -183,6 +183,26 @@ pub fn tx_worked(rows: &Vec<CallRow>, call: u32) -> Option<u32>
             _ => None,
         },
         None => None,
+    }
+}
+
+/// Returns where a call in the transaction that this call began is carried out.
+pub fn inside(rows: &Vec<CallRow>, tx: u32) -> Scope
+    ensures { result ≡ inside (row_at rows.now.items tx).work tx }
+{
+    match rows.get(tx as usize) {
+        Some(row) => works::inside(&row.work, tx),
+        None => Scope::Held(tx),
+    }
+}
+
+/// Returns the work of a call that ends the transaction that this call began.
+pub fn closing_of(rows: &Vec<CallRow>, tx: u32) -> Work
+    ensures { result ≡ closing_of (row_at rows.now.items tx).work tx }
+{
+    match rows.get(tx as usize) {
+        Some(row) => works::closing_of(&row.work, tx),
+        None => Work::End(tx),
     }
 }
 

@@ -3,7 +3,7 @@ ghost use Rattle.std.specs.Prelude.{◌≡◌, false};
 ghost use Rattle.dsql_engine_calls.specs.Calls.{begins_on, hands_out_on};
 ghost use Rattle.dsql_history.specs.journal.Kinds.{is_house, number_of};
 ghost use Rattle.dsql_history.specs.Readers.Tries.{tries_again};
-ghost use Rattle.dsql_history.specs.Readers.Works.{aim_of, asks, borrower_in, hands_out_in, is_in, owner_as, scope};
+ghost use Rattle.dsql_history.specs.Readers.Works.{aim_of, asks, borrower_in, closing_of, hands_out_in, inside, is_in, owner_as, scope};
 
 use crate::tried::MOST_TRIES;
 use dsql_history::{Aim, Owner, Scope, Task, Work};
@@ -113,5 +113,25 @@ pub fn begins_on(pin: u32, work: &Work) -> bool
     match work {
         Work::BeginOn { pin: own, .. } => *own == pin,
         _ => false,
+    }
+}
+
+/// Returns where a call in the transaction that this call began with this work is carried out.
+pub fn inside(work: &Work, tx: u32) -> Scope
+    ensures { result ≡ inside work.now tx }
+{
+    match work {
+        Work::BeginOn { pin, .. } => Scope::Within { pin: *pin, tx },
+        _ => Scope::Held(tx),
+    }
+}
+
+/// Returns the work of a call that ends the transaction that this call began with this work.
+pub fn closing_of(work: &Work, tx: u32) -> Work
+    ensures { result ≡ closing_of work.now tx }
+{
+    match work {
+        Work::BeginOn { pin, .. } => Work::EndWithin { pin: *pin, tx },
+        _ => Work::End(tx),
     }
 }

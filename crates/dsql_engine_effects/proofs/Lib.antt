@@ -10,5 +10,6 @@ pub mod FirstEnds
 pub mod MadeKnown
 pub mod MadeOnce
 pub mod OnceKept
+pub mod PinEnders
 pub mod RowEnders
 pub mod TxEnders
