@@ -312,8 +312,8 @@ pub fn asks_again(rows: &Vec<CallRow>, call: u32) -> bool
     }
 }
 
-/// Returns whether the call's reply is settled: by what closed the database if the call has another try, otherwise by its
-/// newest try. A call that pins a connection has no more to do after it was served.
+/// Returns whether the call's reply is settled: by what closed the database if the call has another try, otherwise by
+/// its newest try. A call that pins a connection has no more to do after it was served.
 pub fn is_told_trying(rows: &Vec<CallRow>, call: u32, closed: Option<DbEnd>) -> bool
     ensures { result ≡ is_some (told_trying closed (row_at rows.now.items call).work
         (row_at rows.now.items call).tried) }

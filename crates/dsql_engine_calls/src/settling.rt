@@ -126,8 +126,8 @@ fn told_beside(
     }
 }
 
-/// Returns the reply of a call with this work and these tries, if it is settled. The call works on the database, or in a
-/// transaction or on a pin where it has sent nothing.
+/// Returns the reply of a call with this work and these tries, if it is settled. The call works on the database, or in
+/// a transaction or on a pin where it has sent nothing.
 fn told_by_tries_or_end(
     work: &Work,
     tried: Tried,

@@ -11,5 +11,6 @@ pub mod MadeKnown
 pub mod MadeOnce
 pub mod OnceKept
 pub mod PinEnders
+pub mod PinsMade
 pub mod RowEnders
 pub mod TxEnders

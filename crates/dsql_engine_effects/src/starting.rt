@@ -100,8 +100,8 @@ pub fn over_rows(
     start
 }
 
-/// Returns what is kept of a call that is to end a transaction with this work. `ends` says how it ends it, if it does. It
-/// takes no memory.
+/// Returns what is kept of a call that is to end a transaction with this work. `ends` says how it ends it, if it does.
+/// It takes no memory.
 pub fn over_end(
     alloc: Global,
     work: Work,
@@ -134,7 +134,8 @@ pub fn over_pin(alloc: Global, label: &Txt, decided: Option<Reply>) -> Result<Ca
     Ok(start)
 }
 
-/// Returns what is kept of a call that begins a transaction on this pin, or on a connection of its own if no pin is given.
+/// Returns what is kept of a call that begins a transaction on this pin, or on a connection of its own if no pin is
+/// given.
 pub fn over_begin(
     alloc: Global,
     pin: Option<u32>,
@@ -171,8 +172,8 @@ fn begin_on(pin: Option<u32>, label: Label, level: Level, read_only: bool) -> Wo
     }
 }
 
-/// Returns the reply that a begin gets at once, if any. `told` is the reply that it gets from what it is made on, if any.
-/// `begin_options` says whether the driver takes options.
+/// Returns the reply that a begin gets at once, if any. `told` is the reply that it gets from what it is made on, if
+/// any. `begin_options` says whether the driver takes options.
 pub fn begin_told(
     told: Option<Reply>,
     begin_options: bool,
