@@ -15,14 +15,22 @@ use Rattle.dsql_history.specs.declared.event.Op.TheVariants.{ConnClose}
 use Rattle.dsql_history.specs.declared.reply.Reply.{Reply}
 use Rattle.dsql_history.specs.declared.reply.Reply.TheVariants.{Ok}
 use Rattle.dsql_history.specs.declared.work.Work.{Work}
-use Rattle.dsql_history.specs.declared.work.Work.TheVariants as works_of
+use Rattle.dsql_history.specs.declared.work.Work.TheVariants as kinds
 use Rattle.dsql_history.specs.Readers.Pins.{ends_pin, pin_by, pin_ender, pin_entered, pin_goes_on, pin_made, pin_replied, pins}
 use Rattle.dsql_history.specs.Readers.Pool.{home}
 use Rattle.dsql_history.specs.Readers.Transactions.{ending_call}
-use Rattle.dsql_history.specs.Readers.Works.{pin_maker, work, works}
+use Rattle.dsql_history.specs.Readers.Works.{hands_out_in, pin_maker, work, works}
 use Rattle.dsql_engine_calls.specs.declared.call.CallRow.{CallRow}
-use Rattle.dsql_engine_calls.specs.Calls.{row_at, with_pin_ender}
+use Rattle.dsql_engine_calls.specs.declared.call.Ending.{Ending}
+use Rattle.dsql_engine_calls.specs.Calls.{row_at, with_ender, with_pin_ender, with_tx_ender}
 use Rattle.dsql_engine_calls.proofs.CallRows.{changed_at, changed_beside, same_all, same_at}
+use Rattle.dsql_history.specs.rows.OpenRows.{rows_of}
+use Rattle.dsql_history.specs.tx.declared.tx.Tx.{Tx}
+use Rattle.dsql_history.specs.works.HandedOut.{Made}
+use Rattle.dsql_history.specs.Readers.HandedOut.{live}
+use Rattle.dsql_engine_effects.specs.Ended.{calls_with_end, going, numbered, tx_ended_for, works_of}
+use Rattle.dsql_engine_effects.specs.Starts.{closed_by}
+use Rattle.dsql_engine_effects.proofs.TxEnders.{row_ended_same, rows_ended_same}
 use Rattle.dsql_engine_effects.specs.Pins.{calls_unpinned, pin_ended_for, pin_going, unpinned}
 use Rattle.dsql_engine_effects.proofs.FirstEnds.{AreEnded, Goes, by_number, changed_goes, each_goes, found_first, stays}
 use Rattle.dsql_engine_effects.proofs.FirstEnds as first
@@ -35,7 +43,7 @@ ended_dead : (by : PinEnd) (pin : Pin) → pin_going (Some (ended_by by pin)) �
 ended_dead by pin is = absurd cc
 
 made_goes : (n m c : ℕ) (it : Work) (made : Numbered Pin) → Goes pin_going (thing_of n made) (thing_of n (pin_made m c it made))
-made_goes n m c (works_of.Pin label) made = found_first pin_going n m (pin_on c) made
+made_goes n m c (kinds.Pin label) made = found_first pin_going n m (pin_on c) made
 made_goes n m c _ made = stays pin_going (thing_of n made)
 
 replied_goes : (H : List Event) (n m : ℕ) (reply : Reply) → Goes pin_going (pin_by H n) (thing_of n (pin_replied H m reply (pins H)))
@@ -79,6 +87,22 @@ unpinned_all p (Some k) n made calls same = by (pin_going (thing_of k made))
   where
     by : (b : Bool) → map p (pin_ended_for b k n calls) ≡ map p calls
     by true = same_all p (with_pin_ender n) k calls (λ row. same row n)
+    by false = refl
+
+-- The end of rows and of a transaction leaves everything that doesn't say who ended them, so also who closed a pin.
+pub closed_same : {A : Type 0} (p : CallRow → A) (it : Option ℕ) (n : ℕ) (rows : Made) (calls : List CallRow) (m : ℕ) → ((row : CallRow) (i : ℕ) → p (with_ender i row) ≡ p row)
+    → p (row_at (closed_by it n rows calls) m) ≡ p (row_at calls m)
+closed_same p None n rows calls m same = refl
+closed_same p (Some k) n rows calls m same = row_ended_same p (live (rows_of k rows)) k n calls m same
+
+pub with_end_same : {A : Type 0} (p : CallRow → A) (it : Option Ending) (n : ℕ) (txs : Numbered Tx) (rows : Made) (calls : List CallRow) (m : ℕ) → ((row : CallRow) (i : ℕ) → p (with_ender i row) ≡ p row)
+    → ((row : CallRow) (i : ℕ) → p (with_tx_ender i row) ≡ p row) → p (row_at (calls_with_end it n txs rows calls) m) ≡ p (row_at calls m)
+with_end_same p None n txs rows calls m same also = refl
+with_end_same p (Some it) n txs rows calls m same also =
+    rows_ended_same p (hands_out_in it.tx) it.tx (works_of calls) n rows (numbered (works_of calls)) (tx_ended_for (going (thing_of it.tx txs)) it.tx n calls) m same ∙ by (going (thing_of it.tx txs))
+  where
+    by : (b : Bool) → p (row_at (tx_ended_for b it.tx n calls) m) ≡ p (row_at calls m)
+    by true = same_at p (with_tx_ender n) it.tx calls m (λ row. also row n)
     by false = refl
 
 ended_here : (b : Bool) (k n : ℕ) (calls : List CallRow) → (b ≡ true → k < length calls) → (row_at (pin_ended_for b k n calls) k).pin_ender ≡ cond b n (row_at calls k).pin_ender
