@@ -1,8 +1,10 @@
 pub mod Awaited
+pub mod Pins
 pub mod Decides
 pub mod Records
 pub mod Begins
 pub mod Awaiting
+pub mod PinOwners
 pub mod Served
 pub mod InnerAwaits
 pub mod InnerOver
@@ -17,3 +19,4 @@ pub mod EndReplies
 pub mod RowsTold
 pub mod Fetches
 pub mod Nowhere
+pub mod PinReplies

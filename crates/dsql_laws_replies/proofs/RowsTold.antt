@@ -49,6 +49,7 @@ use Rattle.dsql_laws_calls.proofs.RowsNew.{held, were_made}
 use Rattle.dsql_laws_calls.proofs.Stays.{not_looking}
 use Rattle.dsql_laws_calls.proofs.Works.{other_heard, work_stays}
 use Rattle.dsql_laws_replies.proofs.Awaiting.{plain_call}
+use Rattle.dsql_laws_replies.proofs.Pins.{hands_no_pin, starts_no_begin}
 use Rattle.dsql_laws_replies.proofs.Decides.{closing_decides}
 use Rattle.dsql_laws_replies.proofs.Records.{own_record, record_stays, trying_of}
 
@@ -95,7 +96,7 @@ own_over H e l numbered own some =
     sent owner lent its due =
         let n = number_of owner in
         let made : is_some (rows_by H n) ≡ true = ap (λ j. is_some (rows_by H j)) its ∙ some in
-        let call = plain_call H e.conn e.tenure owner l.0 lent (rows_start_nothing H n made) in
+        let call = plain_call H e.conn e.tenure owner l.0 lent (starts_no_begin (work H n) (rows_start_nothing H n made)) (hands_no_pin (work H n) (rows_hand_out H n made)) in
         let L = heard_in H e.conn e.tenure in
         let asked = asked_by H n in
         let cursor = some_of (own_cursor (exchanges L)) (held H e.conn e.tenure owner l.0 lent made) in
