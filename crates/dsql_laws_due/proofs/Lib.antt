@@ -1,3 +1,4 @@
+pub mod Pins
 pub mod LineTails
 pub mod LineEnds
 pub mod Holds
