@@ -18,12 +18,13 @@ use crate::desk::Desk;
 use dsql_engine_calls::settling::{forget, take_reply};
 use dsql_engine_calls::tries::{note_tries, note_try};
 use dsql_engine_calls::writes::{put, take_out};
-use dsql_engine_calls::{CallRow, CallStart, Tried};
+use dsql_engine_calls::{CallRow, CallStart, ScopeEnd, Tried};
 use dsql_engine_effects::ending::{end_run, end_tx};
 use dsql_engine_effects::labels::note_label;
+use dsql_engine_effects::pins::{close_pin, note_pin, tell_pin};
 use dsql_engine_effects::rows::close_rows;
 use dsql_engine_effects::tell_answer;
-use dsql_laws_calls::{CallRecord, DriverAnswer, Entry, Event, Move, Op, Reply, TxEnd};
+use dsql_laws_calls::{CallRecord, DriverAnswer, Entry, Event, Move, Op, Reply};
 
 #[tactic(auto)]
 impl Desk {
@@ -49,6 +50,7 @@ impl Desk {
             start.ends,
             call,
         );
+        close_pin(&mut self.calls, &mut self.pins, start.unpins, call);
         put(
             &mut self.calls,
             CallRow {
@@ -62,6 +64,7 @@ impl Desk {
                 tried: Tried::new(),
                 ender: 0,
                 tx_ender: 0,
+                pin_ender: 0,
             },
         );
         put(&mut self.unfinished, call);
@@ -69,6 +72,7 @@ impl Desk {
         self.lines.note_call();
         note_label(&mut self.labels, start.label, call);
         note_label(&mut self.tx_labels, start.tx_label, call);
+        note_label(&mut self.pin_labels, start.pin_label, call);
     }
 
     /// Adds the driver's answer on a lent connection. `copy` is a copy of the answer, and `reply` is what the
@@ -93,6 +97,7 @@ impl Desk {
             copy,
             reply,
         );
+        tell_pin(&mut self.pins, &entry);
         self.history.note(Event::Heard(entry));
     }
 
@@ -153,16 +158,13 @@ impl Desk {
         requires { MayAdd self.old (Event.Replied call reply) }
         ensures { Adds self.old self.new (Event.Replied call reply) }
     {
-        self.paid -= 1;
-        self.step = 0;
         forget(&mut self.calls, call);
-        self.history.note(Event::Replied { n: call, reply });
-        take_out(&mut self.unfinished, call);
+        self.finish(call, reply);
     }
 
-    /// Adds the reply that a call's row says it has. `ended_by` is what has ended the transaction in which the
+    /// Adds the reply that a call's row says it has. `ended_by` is what has ended the transaction or the pin on which the
     /// call has sent nothing, if something has.
-    pub(crate) fn add_due_reply(&mut self, call: u32, ended_by: Option<TxEnd>)
+    pub(crate) fn add_due_reply(&mut self, call: u32, ended_by: Option<ScopeEnd>)
         requires may { MayAdd self.old (Event.Replied call
             (reply_or (settled_in self.old.closed_by ended_by self.old.caps.pinger
             (row_at self.old.calls.items call)))) }
@@ -179,8 +181,18 @@ impl Desk {
             ended_by,
             self.caps.pinger,
         );
+        self.finish(call, reply);
+    }
+
+    /// Records the reply of a call, the pin that the call makes with it, and that the call is finished.
+    fn finish(&mut self, call: u32, reply: Reply)
+        requires { MayAdd self.old (Event.Replied call reply) }
+        ensures { Adds self.old self.new (Event.Replied call reply) }
+    {
         self.paid -= 1;
         self.step = 0;
+        let conn = self.home(call);
+        note_pin(&mut self.pins, &self.calls, call, conn, &reply);
         self.history.note(Event::Replied { n: call, reply });
         take_out(&mut self.unfinished, call);
     }
@@ -195,7 +207,7 @@ impl Desk {
         self.step = 0;
         self.history.note(Event::Ended);
         self.ended = true;
-        end_run(&self.calls, &mut self.rows, &mut self.txs);
+        end_run(&self.calls, &mut self.rows, &mut self.txs, &mut self.pins);
     }
 }
 
