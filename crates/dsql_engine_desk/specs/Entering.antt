@@ -10,13 +10,12 @@ use Rattle.dsql_laws_calls.specs.history.declared.event.Event.{Event}
 use Rattle.dsql_laws_calls.specs.history.declared.event.Target.{Target}
 use Rattle.dsql_laws_calls.specs.history.declared.work.Work.{Work}
 use Rattle.dsql_laws_calls.specs.history.Readers.Pins.{is_pinned}
-use Rattle.dsql_engine_calls.specs.Calls.{closing_of}
 use Rattle.dsql_laws_calls.specs.history.Readers.Calls.{is_there, target_refused, tx_refused}
 use Rattle.dsql_laws_calls.specs.history.Readers.Course.{caps}
 use Rattle.dsql_laws_calls.specs.history.Readers.Decisions.{told_of}
 use Rattle.dsql_laws_calls.specs.history.Readers.HandedOut.{handed_out, rows_by}
 use Rattle.dsql_laws_calls.specs.history.Readers.Unfinished.{is_unfinished}
-use Rattle.dsql_laws_calls.specs.history.Readers.Works.{pin_maker, rows_maker, tx_maker, work, works}
+use Rattle.dsql_laws_calls.specs.history.Readers.Works.{closing_of, pin_maker, rows_maker, tx_maker, work, works}
 use Rattle.dsql_engine_calls.specs.declared.call.CallStart.{CallStart}
 use Rattle.dsql_engine_effects.specs.Starts.{ending_of, label_made}
 use Rattle.dsql_engine_effects.specs.Starting.{StartsOver}

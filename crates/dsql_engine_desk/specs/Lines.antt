@@ -7,7 +7,7 @@ use Rattle.dsql_laws_calls.specs.history.declared.work.Scope.{Scope}
 use Rattle.dsql_laws_calls.specs.history.declared.work.Scope.TheVariants.{Db, Held, Pinned, Within}
 use Rattle.dsql_laws_calls.specs.history.Readers.Transactions.{tx_ender}
 use Rattle.dsql_laws_calls.specs.history.Rules.Ending.{ending}
-use Rattle.dsql_laws_calls.specs.history.Rules.Line.{sends_in}
+use Rattle.dsql_laws_calls.specs.history.Rules.Line.{sends_in, sends_on}
 use Rattle.dsql_laws_calls.specs.history.Rules.Sent.{line_of, sent_for, wish}
 
 -- Is true if call m is to send by itself: on a connection of its own if it asks for one, or in its transaction.

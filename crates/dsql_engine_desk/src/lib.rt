@@ -7,6 +7,7 @@ mod deciding;
 mod desk;
 mod ending;
 mod entering;
+mod entering_pins;
 mod entering_rows;
 mod events;
 mod next;

@@ -65,7 +65,7 @@ impl Desk {
             Some((level, read_only)) => self.begins_next(conn, level, read_only),
             None => match self.scope(call) {
                 Scope::Db => self.sends_next(conn, call, wish),
-                Scope::Held(_) => self.goes_next(conn, call, wish),
+                _ => self.goes_next(conn, call, wish),
             },
         }
     }

@@ -159,7 +159,7 @@ impl Desk {
     {
         match self.scope(call) {
             Scope::Db => self.asks(call) && self.is_told_by_tries(call),
-            Scope::Held(_) => self.ended_before(call).is_some(),
+            _ => self.ended_before(call).is_some(),
         }
     }
 

@@ -10,6 +10,7 @@ ghost use Rattle.dsql_engine_calls.specs.Calls.{row_at};
 ghost use Rattle.dsql_engine_effects.specs.Starts.{Starts};
 ghost use Rattle.dsql_laws_calls.specs.history.Readers.HandedOut.{handed_out};
 ghost use Rattle.dsql_laws_calls.specs.history.Readers.Owed.{owed};
+ghost use Rattle.dsql_laws_calls.specs.history.Readers.Pool.{home};
 ghost use Rattle.dsql_laws_calls.specs.history.Readers.Transactions.{transactions};
 ghost use Rattle.dsql_laws_calls.specs.history.Readers.Works.{work, works};
 ghost use Rattle.dsql_engine_calls.specs.Tried.{most_counted};
@@ -153,21 +154,23 @@ impl Desk {
         self.history.note(event);
     }
 
-    /// Adds the reply of a call.
-    pub(crate) fn add_reply(&mut self, call: u32, reply: Reply)
-        requires { MayAdd self.old (Event.Replied call reply) }
+    /// Adds the reply of a call. `conn` is the connection that the call has; 0 for none.
+    pub(crate) fn add_reply(&mut self, call: u32, conn: u32, reply: Reply)
+        requires may { MayAdd self.old (Event.Replied call reply) }
+        requires conn { conn ≡ home (past self.old) call }
         ensures { Adds self.old self.new (Event.Replied call reply) }
     {
         forget(&mut self.calls, call);
-        self.finish(call, reply);
+        self.finish(call, conn, reply);
     }
 
     /// Adds the reply that a call's row says it has. `ended_by` is what has ended the transaction or the pin on which the
     /// call has sent nothing, if something has.
-    pub(crate) fn add_due_reply(&mut self, call: u32, ended_by: Option<ScopeEnd>)
+    pub(crate) fn add_due_reply(&mut self, call: u32, conn: u32, ended_by: Option<ScopeEnd>)
         requires may { MayAdd self.old (Event.Replied call
             (reply_or (settled_in self.old.closed_by ended_by self.old.caps.pinger
             (row_at self.old.calls.items call)))) }
+        requires conn { conn ≡ home (past self.old) call }
         requires due { is_some (settled_in self.old.closed_by ended_by self.old.caps.pinger
             (row_at self.old.calls.items call)) ≡ true }
         ensures { Adds self.old self.new
@@ -181,17 +184,14 @@ impl Desk {
             ended_by,
             self.caps.pinger,
         );
-        self.finish(call, reply);
+        self.finish(call, conn, reply);
     }
 
     /// Records the reply of a call, the pin that the call makes with it, and that the call is finished.
-    fn finish(&mut self, call: u32, reply: Reply)
-        requires { MayAdd self.old (Event.Replied call reply) }
-        ensures { Adds self.old self.new (Event.Replied call reply) }
+    fn finish(&mut self, call: u32, conn: u32, reply: Reply)
     {
         self.paid -= 1;
         self.step = 0;
-        let conn = self.home(call);
         note_pin(&mut self.pins, &self.calls, call, conn, &reply);
         self.history.note(Event::Replied { n: call, reply });
         take_out(&mut self.unfinished, call);
