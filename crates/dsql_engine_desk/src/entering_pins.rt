@@ -4,8 +4,10 @@ ghost use Rattle.dsql_engine_desk.specs.Desk.{past, Stands};
 ghost use Rattle.dsql_engine_desk.specs.Entering.{pin_named};
 ghost use Rattle.dsql_engine_effects.specs.Starts.{Starts};
 ghost use Rattle.dsql_laws_calls.specs.history.Readers.Calls.{conn_refused, pin_refused};
-ghost use Rattle.dsql_laws_calls.specs.history.Readers.Pins.{pin_end};
-ghost use Rattle.dsql_laws_calls.specs.history.Readers.Works.{pin_maker, works};
+ghost use Rattle.dsql_laws_calls.specs.history.Readers.Pins.{pin_end, pin_goes_on};
+ghost use Rattle.dsql_laws_calls.specs.history.Readers.Works.{pin_maker, scope, work, works};
+ghost use Rattle.dsql_laws_calls.specs.history.Rules.Line.{sends_on};
+ghost use Rattle.dsql_laws_calls.specs.history.declared.work.Scope.TheVariants.{Pinned};
 ghost use Rattle.dsql_laws_calls.specs.history.declared.event.Op.TheVariants as ops;
 
 use crate::desk::Desk;
@@ -82,6 +84,23 @@ impl Desk {
     {
         let pin = self.pin_maker(label);
         self.pins.was_made(pin).then_some(pin)
+    }
+
+    /// Returns whether a pin was made and nothing has ended it.
+    fn pin_goes_on(&self, pin: u32) -> bool
+        requires { Stands self.now }
+        ensures { result ≡ pin_goes_on (past self.now) pin }
+    {
+        self.pins.was_made(pin) && self.pins.admit(pin).is_ok()
+    }
+
+    /// Returns whether a call on a pin, in no transaction, may send there.
+    pub(crate) fn sends_on(&self, call: u32, pin: u32) -> bool
+        requires stands { Stands self.now }
+        requires on_pin { scope (work (past self.now) call) ≡ Pinned pin }
+        ensures { result ≡ sends_on (past self.now) call pin }
+    {
+        self.has_begun(call) || (self.pin_goes_on(pin) && !self.has_decided(call))
     }
 
     /// Returns what has ended a pin, if something has.

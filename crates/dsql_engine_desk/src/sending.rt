@@ -170,7 +170,8 @@ impl Desk {
     {
         match self.scope(call) {
             Scope::Db => self.asks(call),
-            Scope::Held(tx) => self.sends_in(call, tx),
+            Scope::Held(tx) | Scope::Within { tx, .. } => self.sends_in(call, tx),
+            Scope::Pinned(pin) => self.sends_on(call, pin),
         }
     }
 
