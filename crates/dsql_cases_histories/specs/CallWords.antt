@@ -129,7 +129,7 @@ abbrev pub asks_for_fault : ℕ → ℕ → List ℕ → Event
 asks_for_fault k n label = Entered k n (ops.Err label)
 
 abbrev pub pings : ℕ → ℕ → Event
-pings k n = Entered k n (ops.Ping targets.Db)
+pings k n = Entered k n ops.Ping
 
 abbrev pub asks_for_stats : ℕ → ℕ → Event
 asks_for_stats k n = Entered k n ops.Stats

@@ -22,7 +22,3 @@ pub mod Pings
 pub mod DamagedPings
 pub mod Tries
 pub mod DamagedTries
-pub mod PinWords
-pub mod Pins
-pub mod OnPins
-pub mod DamagedPins

@@ -87,13 +87,13 @@ row = answers.Row (values.Text (codes "a") ∷ [])
 -- Client k's call n.
 
 abbrev pub begins_with : ℕ → ℕ → List ℕ → Event
-begins_with k n label = Entered k n (ops.Begin label targets.Db levels.Snapshot true)
+begins_with k n label = Entered k n (ops.Begin label levels.Snapshot true)
 
 abbrev pub begins_to_read : ℕ → ℕ → List ℕ → Event
-begins_to_read k n label = Entered k n (ops.Begin label targets.Db levels.Default true)
+begins_to_read k n label = Entered k n (ops.Begin label levels.Default true)
 
 abbrev pub begins : ℕ → ℕ → List ℕ → Event
-begins k n label = Entered k n (ops.Begin label targets.Db levels.Default false)
+begins k n label = Entered k n (ops.Begin label levels.Default false)
 
 abbrev pub executes_on : Target → ℕ → ℕ → Event
 executes_on target k n = Entered k n (ops.Exec target text [])
@@ -125,7 +125,7 @@ abbrev pub closes_db : ℕ → ℕ → Event
 closes_db k n = Entered k n ops.DbClose
 
 abbrev pub pings : ℕ → ℕ → Event
-pings k n = Entered k n (ops.Ping targets.Db)
+pings k n = Entered k n ops.Ping
 
 abbrev pub asks_for_stats : ℕ → ℕ → Event
 asks_for_stats k n = Entered k n ops.Stats

@@ -1,5 +1,5 @@
 //! Examples of legal and refused histories, which show what the rules mean. They have calls, waits, limits,
-//! moments, pings, rows, transactions, pins and the run's end. The functions do nothing: their contracts are the
+//! moments, pings, rows, transactions and the run's end. The functions do nothing: their contracts are the
 //! examples.
 #![tactic(auto)]
 
@@ -10,7 +10,6 @@ pub mod ended;
 pub mod kept;
 pub mod limit;
 pub mod pings;
-pub mod pins;
 pub mod reports;
 pub mod rows;
 pub mod steps;

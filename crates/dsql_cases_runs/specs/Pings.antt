@@ -4,7 +4,6 @@ use Rattle.std.specs.Prelude.{ℕ, [], ◌∷◌, reverse}
 use Rattle.dsql_history.specs.pool.declared.moves.CloseCause.TheVariants as causes
 use Rattle.dsql_history.specs.declared.event.Event.TheVariants.{Waits, Replied, Ended}
 use Rattle.dsql_history.specs.declared.event.Op.TheVariants.{Ping}
-use Rattle.dsql_history.specs.declared.event.Target.TheVariants.{Db}
 use Rattle.dsql_history.specs.declared.reply.Reply.TheVariants as replies
 use Rattle.dsql_cases_histories.specs.CallWords.{run_untested, pings, open_start, lend, back, close, gone, sets_open}
 use Rattle.dsql_follows.specs.declared.line.Line.{Line}
@@ -14,7 +13,7 @@ use Rattle.dsql_cases_runs.specs.CallWords.{limits, connects, shuts, part}
 use Rattle.dsql_cases_runs.specs.CallEdits.{with_events, with_line, puts_off_to_the_end, brings_forward}
 
 abbrev pub starts_ping : ℕ → Line
-starts_ping client = Start client (Ping Db)
+starts_ping client = Start client Ping
 
 -- Two pings rest with one connection, one after the other, each until its own step. A third ping is lent it on
 -- entry, and goes on at once.

@@ -25,7 +25,7 @@ abbrev pub limits : ℕ → Line
 limits n = lines.Control (Set MaxOpen (pos n))
 
 abbrev pub calls_begin : ℕ → List ℕ → Line
-calls_begin client label = Client client (ops.Begin label targets.Db Default false)
+calls_begin client label = Client client (ops.Begin label Default false)
 
 abbrev pub calls_exec : ℕ → Line
 calls_exec client = Client client (ops.Exec targets.Db text [])

@@ -3,7 +3,6 @@ use Rattle.std.specs.Prelude.{ℕ, true, false, List, [], ◌∷◌, ◌++◌, c
 use Rattle.dsql_history.specs.driver.declared.call.Level.{Level}
 use Rattle.dsql_history.specs.declared.event.Op.{Op}
 use Rattle.dsql_history.specs.declared.event.Op.TheVariants.{Begin}
-use Rattle.dsql_history.specs.declared.event.Target.TheVariants.{Db}
 use Rattle.dsql_history.specs.declared.event.Event.{Event}
 use Rattle.dsql_history.specs.declared.event.Event.TheVariants.{Run, Entered, Replied, Ended}
 use Rattle.dsql_history.specs.declared.reply.Reply.{Reply}
@@ -16,7 +15,7 @@ entered_line op = line_of (Entered 1 4 op)
 
 -- Returns the line of client 1's call 4, a begin at this level of a transaction that may write.
 abbrev pub level_line : Level → List ℕ
-level_line level = entered_line (Begin x Db level false)
+level_line level = entered_line (Begin x level false)
 
 -- Returns the line of a reply to call 3.
 abbrev pub reply_line : Reply → List ℕ
@@ -35,7 +34,7 @@ refused_begin level reply =
       resetter = false;
       validator = false;
     })
-    ∷ Entered 1 1 (Begin x Db level true)
+    ∷ Entered 1 1 (Begin x level true)
     ∷ Replied 1 reply
     ∷ Ended
     ∷ []

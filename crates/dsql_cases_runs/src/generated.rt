@@ -6,7 +6,7 @@ ghost use Rattle.dsql_history.specs.scan.declared.dest.Dest.TheVariants as dest;
 ghost use Rattle.dsql_history.specs.driver.declared.call.Level.TheVariants as level;
 ghost use Rattle.dsql_script_generator.specs.Script.{generated};
 ghost use Rattle.dsql_history.specs.declared.event.Op.TheVariants.{Exec, Query, Begin, Next, Scan, Commit};
-ghost use Rattle.dsql_history.specs.declared.event.Target.TheVariants.{Db, Label};
+ghost use Rattle.dsql_history.specs.declared.event.Target.TheVariants.{Label};
 ghost use Rattle.dsql_follows.specs.declared.line.Line.TheVariants.{Client};
 ghost use Rattle.dsql_script_source.specs.Script.{script_of, whole};
 ghost use Rattle.dsql_script_source.specs.Plays.{saying};
@@ -15,7 +15,7 @@ ghost use Rattle.dsql_script_source.specs.Plays.{saying};
 /// is refused.
 pub fn generated_lines_are_read()
     ensures block { script_of (generated 8) ≡ whole (saying None (
-        Client 1 (Begin (codes "x1") Db level.Default false)
+        Client 1 (Begin (codes "x1") level.Default false)
         ∷ Client 1 (Exec (Label (codes "x1")) (codes "SET ? ?")
         (plain (arg.Text (codes "u1")) ∷ plain (arg.Text (codes "Ann")) ∷ []))
         ∷ Client 1 (Exec (Label (codes "x1")) (codes "ADD ? ?")

@@ -10,13 +10,11 @@ pub mod strayed;
 pub mod strayed_calls;
 pub mod times;
 pub mod tries;
-mod worked_pins;
 mod worked_reports;
 mod worked_scripts;
 mod worked_transactions;
 
 pub use generated::generated_lines_are_read;
-pub use worked_pins::{worked_conn_lines, worked_pin_lines};
 pub use worked_reports::{
     worked_block, worked_call_lines, worked_end_lines, worked_level_lines, worked_refused_begins,
 };

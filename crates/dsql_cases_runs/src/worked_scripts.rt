@@ -250,17 +250,16 @@ pub fn worked_race_lines()
     ensures version { read_of (unread_by true) (codes "version 1") ≡ Ok (Version 1) }
     ensures limit { read_of (unread_by true) (codes "maxopen 2") ≡ Ok (script.Control (Set MaxOpen (pos 2))) }
     ensures fault { read_of (unread_by true) (codes "fault 1 2 bad") ≡ Ok (script.Fault 1 2 Bad) }
-    ensures ping { read_of (unread_by true) (codes "c1 ping db") ≡ Ok (Client 1 (op.Ping Db) false) }
+    ensures ping { read_of (unread_by true) (codes "c1 ping db") ≡ Ok (Client 1 op.Ping false) }
     ensures unknown { read_of (unread_by true) (codes "c1 next r") ≡ Err UnknownLabel }
-    ensures step_behind { read_of (after (unread_by true) (Client 1 (op.Ping Db) false)) (codes "step c1")
-        ≡ Err NoSuchWord }
+    ensures step_behind { read_of (after (unread_by true) (Client 1 op.Ping false)) (codes "step c1") ≡ Err NoSuchWord }
 {}
 
 /// States what is read of lines that ping.
 pub fn worked_ping_lines()
-    ensures ping { read_of unread (codes "c1 ping db") ≡ Ok (Client 1 (op.Ping Db) false) }
-    ensures last_client { read_of (progress 9999 Begun) (codes "c64 ping db\r") ≡ Ok (Client 64 (op.Ping Db) false) }
-    ensures held { read_of unread (codes "start c2 ping db") ≡ Ok (Client 2 (op.Ping Db) true) }
+    ensures ping { read_of unread (codes "c1 ping db") ≡ Ok (Client 1 op.Ping false) }
+    ensures last_client { read_of (progress 9999 Begun) (codes "c64 ping db\r") ≡ Ok (Client 64 op.Ping false) }
+    ensures held { read_of unread (codes "start c2 ping db") ≡ Ok (Client 2 op.Ping true) }
     ensures alone { read_of unread (codes "c1 ping") ≡ Err BadShape }
     ensures empty_word { read_of unread (codes "c1 ping ") ≡ Err BadShape }
     ensures upper_case { read_of unread (codes "c1 ping Db") ≡ Err BadShape }
@@ -271,7 +270,7 @@ pub fn worked_ping_lines()
     ensures label { read_of unread (codes "c1 ping x") ≡ Err UnknownLabel }
     ensures rows { read_of (progress_past ((codes "r", Rows) ∷ [])) (codes "c1 ping r") ≡ Err UnknownLabel }
     ensures token { read_of unread (codes "c1 ping db @k") ≡ Err UnknownLabel }
-    ensures no_version_behind { read_of (after unread (Client 1 (op.Ping Db) false)) (codes "version 1") ≡ Err NoSuchWord }
+    ensures no_version_behind { read_of (after unread (Client 1 op.Ping false)) (codes "version 1") ≡ Err NoSuchWord }
 {}
 
 /// States what is read of lines of steps, and of calls whose word stands alone.

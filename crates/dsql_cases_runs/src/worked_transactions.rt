@@ -8,7 +8,7 @@ ghost use Rattle.dsql_script_forms.specs.declared.fault.What.TheVariants.{Args};
 ghost use Rattle.dsql_script_forms.specs.declared.fault.LineFault.TheVariants.{NoSuchWord, BadJson, BadShape, UnknownLabel, LabelTaken, TooMany};
 ghost use Rattle.dsql_history.specs.declared.event.Op.TheVariants.{Begin};
 ghost use Rattle.dsql_history.specs.declared.event.Op.TheVariants as op;
-ghost use Rattle.dsql_history.specs.declared.event.Target.TheVariants.{Db, Label};
+ghost use Rattle.dsql_history.specs.declared.event.Target.TheVariants.{Label};
 ghost use Rattle.dsql_script_reader.specs.declared.kind.Kind.TheVariants.{Rows, Transaction};
 ghost use Rattle.dsql_script_reader.specs.declared.script.ScriptLine.TheVariants.{Client};
 ghost use Rattle.dsql_script_reader.specs.declared.script.Head.TheVariants.{Begun};
@@ -18,29 +18,29 @@ ghost use Rattle.dsql_script_reader.specs.ScriptLines.{read_of};
 /// States what is read of lines that begin a transaction.
 pub fn worked_begin_lines()
     ensures begin { read_of unread (codes "c1 begin x db")
-        ≡ Ok (Client 1 (Begin (codes "x") Db level.Default false) false) }
+        ≡ Ok (Client 1 (Begin (codes "x") level.Default false) false) }
     ensures last_client { read_of (progress 9999 Begun) (codes "c64 begin x_2 db\r")
-        ≡ Ok (Client 64 (Begin (codes "x_2") Db level.Default false) false) }
+        ≡ Ok (Client 64 (Begin (codes "x_2") level.Default false) false) }
     ensures held { read_of unread (codes "start c2 begin x db")
-        ≡ Ok (Client 2 (Begin (codes "x") Db level.Default false) true) }
+        ≡ Ok (Client 2 (Begin (codes "x") level.Default false) true) }
     ensures read_only { read_of unread (codes "c1 begin x db ro")
-        ≡ Ok (Client 1 (Begin (codes "x") Db level.Default true) false) }
+        ≡ Ok (Client 1 (Begin (codes "x") level.Default true) false) }
     ensures both { read_of unread (codes "c1 begin x db level=snapshot ro")
-        ≡ Ok (Client 1 (Begin (codes "x") Db level.Snapshot true) false) }
+        ≡ Ok (Client 1 (Begin (codes "x") level.Snapshot true) false) }
     ensures read_uncommitted { read_of unread (codes "c1 begin x db level=read_uncommitted")
-        ≡ Ok (Client 1 (Begin (codes "x") Db level.ReadUncommitted false) false) }
+        ≡ Ok (Client 1 (Begin (codes "x") level.ReadUncommitted false) false) }
     ensures read_committed { read_of unread (codes "c1 begin x db level=read_committed")
-        ≡ Ok (Client 1 (Begin (codes "x") Db level.ReadCommitted false) false) }
+        ≡ Ok (Client 1 (Begin (codes "x") level.ReadCommitted false) false) }
     ensures write_committed { read_of unread (codes "c1 begin x db level=write_committed")
-        ≡ Ok (Client 1 (Begin (codes "x") Db level.WriteCommitted false) false) }
+        ≡ Ok (Client 1 (Begin (codes "x") level.WriteCommitted false) false) }
     ensures repeatable_read { read_of unread (codes "c1 begin x db level=repeatable_read")
-        ≡ Ok (Client 1 (Begin (codes "x") Db level.RepeatableRead false) false) }
+        ≡ Ok (Client 1 (Begin (codes "x") level.RepeatableRead false) false) }
     ensures snapshot { read_of unread (codes "c1 begin x db level=snapshot")
-        ≡ Ok (Client 1 (Begin (codes "x") Db level.Snapshot false) false) }
+        ≡ Ok (Client 1 (Begin (codes "x") level.Snapshot false) false) }
     ensures serializable { read_of unread (codes "c1 begin x db level=serializable")
-        ≡ Ok (Client 1 (Begin (codes "x") Db level.Serializable false) false) }
+        ≡ Ok (Client 1 (Begin (codes "x") level.Serializable false) false) }
     ensures linearizable { read_of unread (codes "c1 begin x db level=linearizable")
-        ≡ Ok (Client 1 (Begin (codes "x") Db level.Linearizable false) false) }
+        ≡ Ok (Client 1 (Begin (codes "x") level.Linearizable false) false) }
     ensures default_level { read_of unread (codes "c1 begin x db level=default") ≡ Err BadShape }
     ensures no_level { read_of unread (codes "c1 begin x db level=") ≡ Err BadShape }
     ensures upper_case { read_of unread (codes "c1 begin x db level=Snapshot") ≡ Err BadShape }
@@ -67,7 +67,7 @@ pub fn worked_begin_lines()
         ≡ Err LabelTaken }
     ensures token_before_label { read_of (progress_past ((codes "x", Transaction) ∷ [])) (codes "c1 begin x db @k")
         ≡ Err UnknownLabel }
-    ensures no_version_behind { read_of (after unread (Client 1 (Begin (codes "x") Db level.Default false) false))
+    ensures no_version_behind { read_of (after unread (Client 1 (Begin (codes "x") level.Default false) false))
         (codes "version 1")
         ≡ Err NoSuchWord }
 {}
@@ -92,7 +92,7 @@ pub fn worked_transaction_lines()
         ≡ Ok (Client 64 (op.Rollback (codes "x")) false) }
     ensures held { read_of (progress_past ((codes "x", Transaction) ∷ [])) (codes "start c1 commit x")
         ≡ Ok (Client 1 (op.Commit (codes "x")) true) }
-    ensures names_label { read_of (after unread (Client 1 (Begin (codes "x") Db level.Default false) true))
+    ensures names_label { read_of (after unread (Client 1 (Begin (codes "x") level.Default false) true))
         (codes "c2 rollback x")
         ≡ Ok (Client 2 (op.Rollback (codes "x")) false) }
     ensures unknown_target { read_of unread (codes "c1 exec x [\"SET a 1\"]") ≡ Err UnknownLabel }

@@ -9,9 +9,9 @@ use Rattle.dsql_engine_calls.specs.Tried as of_row
 use Rattle.dsql_engine_calls.specs.Tried.{kept, one_more, newest_lost, number, has_another, next_is_last, most_counted}
 use Rattle.dsql_history.specs.declared.event.Event.{Event}
 use Rattle.dsql_history.specs.declared.work.Work.{Work}
-use Rattle.dsql_history.specs.declared.work.Work.TheVariants.{Pin}
+use Rattle.dsql_history.specs.Readers.Calls.{told_by_tries}
 use Rattle.dsql_history.specs.Readers.Course.{db_end}
-use Rattle.dsql_engine_calls.specs.Settling.{told_asking, told_trying}
+use Rattle.dsql_engine_calls.specs.Settling.{told_trying}
 
 pub kept_number : (ts : List Try) → number (kept ts) ≡ try_number ts
 kept_number [] = refl
@@ -44,8 +44,6 @@ kept_more it ts few =
     let of_count : ℕ → Tried = λ k. record { newest = Some it; count = k } in
     ap of_count count
 
-pub kept_told : (H : List Event) (work : Work) (ts : List Try) → told_trying (db_end H) work (kept ts) ≡ told_asking H work ts
-kept_told H (Pin label) (Served ∷ ts) = refl
-kept_told H (Pin label) _ = refl
-kept_told H _ (Served ∷ ts) = refl
-kept_told H _ _ = refl
+pub kept_told : (H : List Event) (work : Work) (ts : List Try) → told_trying (db_end H) work (kept ts) ≡ told_by_tries H work ts
+kept_told H work (Served ∷ ts) = refl
+kept_told H work _ = refl

@@ -1,17 +1,14 @@
 -- The recorded rows of calls, compared with the history.
-use Rattle.std.specs.Prelude.{ℕ, ◌==◌, Bool, ◌≡◌, true, false, List, map, slice_set, slice_index_or, Option, Some, None}
+use Rattle.std.specs.Prelude.{ℕ, Bool, ◌≡◌, true, List, map, slice_set, slice_index_or, Option, Some, None}
 use Rattle.dsql_history.specs.driver.declared.call.Level.{Level}
 use Rattle.dsql_history.specs.declared.record.Try.{Try}
 use Rattle.dsql_engine_calls.specs.Tried.{untried, kept, one_more}
 use Rattle.dsql_history.specs.declared.event.Event.{Event}
 use Rattle.dsql_history.specs.declared.work.Work.{Work}
-use Rattle.dsql_history.specs.declared.work.Work.TheVariants.{Statement, Begin, BeginOn, End, EndWithin, Pin, Unpin, Fetch, Close, Look}
-use Rattle.dsql_history.specs.declared.work.Scope.TheVariants.{Pinned}
-use Rattle.dsql_history.specs.declared.work.Task.TheVariants.{HandOut}
+use Rattle.dsql_history.specs.declared.work.Work.TheVariants.{Begin, End, Fetch, Close, Look}
 use Rattle.dsql_history.specs.Readers.Calls as told
 use Rattle.dsql_history.specs.Readers.HandedOut as given
 use Rattle.dsql_history.specs.Readers.Transactions as begun
-use Rattle.dsql_history.specs.Readers.Pins as pins
 use Rattle.dsql_history.specs.Readers.Tries.{tries}
 use Rattle.dsql_history.specs.Readers.Unfinished.{is_unfinished}
 use Rattle.dsql_history.specs.Readers.Works.{borrower_in, scope}
@@ -20,7 +17,7 @@ use Rattle.dsql_engine_calls.specs.declared.call.CallRow.{CallRow}
 
 -- The row of no call: there is no call 0.
 abbrev pub nobody : CallRow
-nobody = record { call = told.nobody; work = Look; tried = untried; ender = 0; tx_ender = 0; pin_ender = 0 }
+nobody = record { call = told.nobody; work = Look; tried = untried; ender = 0; tx_ender = 0 }
 
 -- Returns the row of call n.
 abbrev pub row_at : List CallRow → ℕ → CallRow
@@ -40,9 +37,6 @@ with_ender n row = record row { ender = n }
 abbrev pub with_tx_ender : ℕ → CallRow → CallRow
 with_tx_ender n row = record row { tx_ender = n }
 
-abbrev pub with_pin_ender : ℕ → CallRow → CallRow
-with_pin_ender n row = record row { pin_ender = n }
-
 -- Returns the call on whose rows a call with this work works, if it works on rows.
 abbrev pub rows_worked : Work → Option ℕ
 rows_worked (Fetch k) = Some k
@@ -52,34 +46,12 @@ rows_worked _ = None
 -- Returns the call whose transaction a call with this work ends, if it ends one.
 abbrev pub tx_worked : Work → Option ℕ
 tx_worked (End k) = Some k
-tx_worked (EndWithin pin k) = Some k
 tx_worked _ = None
 
--- Returns the call whose pin a call with this work closes, if it closes one.
-abbrev pub pin_worked : Work → Option ℕ
-pin_worked (Unpin pin) = Some pin
-pin_worked _ = None
-
--- Is true if a call with this work pins a connection of its own.
-abbrev pub is_pinning : Work → Bool
-is_pinning (Pin label) = true
-is_pinning _ = false
-
--- Is true if a call with this work hands out rows on pin p, and in no transaction.
-abbrev pub hands_out_on : ℕ → Work → Bool
-hands_out_on p (Statement (Pinned pin) (HandOut label)) = pin == p
-hands_out_on p _ = false
-
--- Is true if a call with this work begins a transaction on pin p.
-abbrev pub begins_on : ℕ → Work → Bool
-begins_on p (BeginOn pin label level read_only) = pin == p
-begins_on p _ = false
-
--- Returns the level of the transaction that a call with this work begins, also on a pin, if it begins one, and whether
--- that transaction only reads.
+-- Returns the level of the transaction that a call with this work begins, if it begins one, and whether that
+-- transaction only reads.
 abbrev pub options_of : Work → Option (Level × Bool)
 options_of (Begin label level read_only) = Some (level, read_only)
-options_of (BeginOn pin label level read_only) = Some (level, read_only)
 options_of _ = None
 
 -- Returns the call to which the connection is lent that call n, with this work, uses.
@@ -87,8 +59,6 @@ abbrev pub borrower_as : List CallRow → Work → ℕ → ℕ
 borrower_as rows (Fetch k) n = borrower_in (scope (row_at rows k).work) k
 borrower_as rows (Close k) n = borrower_in (scope (row_at rows k).work) k
 borrower_as rows (End k) n = k
-borrower_as rows (EndWithin pin k) n = pin
-borrower_as rows (Unpin pin) n = pin
 borrower_as rows it n = borrower_in (scope it) n
 
 abbrev pub borrower : List CallRow → ℕ → ℕ
@@ -102,4 +72,3 @@ pub record KeepsCalls (past : List Event) (rows : List CallRow) : Type 0 where
   pub tried : (n : ℕ) → is_unfinished past n ≡ true → (row_at rows n).tried ≡ kept (tries past n)
   pub ender : (n : ℕ) → (row_at rows n).ender ≡ given.ender past n
   pub tx_ender : (n : ℕ) → (row_at rows n).tx_ender ≡ begun.tx_ender past n
-  pub pin_ender : (n : ℕ) → (row_at rows n).pin_ender ≡ pins.pin_ender past n

@@ -16,8 +16,6 @@ pub struct CallRow {
     /// The call that ended the transaction that this call began. It is 0 if no call did, or if the end of the
     /// run ended it.
     pub tx_ender: u32,
-    /// The call that closed the pin that this call made. It is 0 if no call did, or if something else ended it.
-    pub pin_ender: u32,
 }
 
 /// The end of the transaction that a call began.
@@ -38,14 +36,10 @@ pub struct CallStart {
     pub label: Option<String>,
     /// The label of the transaction that it begins, if it begins one.
     pub tx_label: Option<String>,
-    /// The label of the pin that it makes, if it makes one.
-    pub pin_label: Option<String>,
     /// The query whose rows it closes as it enters, if it closes any.
     pub closes: Option<u32>,
     /// The transaction that it ends as it enters, with its rows, if it ends one.
     pub ends: Option<Ending>,
-    /// The pin that it closes as it enters, if it closes one.
-    pub unpins: Option<u32>,
     /// Its reply, if it gets one at once.
     pub decided: Option<Reply>,
 }

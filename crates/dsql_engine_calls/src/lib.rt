@@ -5,7 +5,6 @@ mod call;
 mod no_room;
 pub mod replies;
 pub mod row;
-mod scope_end;
 pub mod settling;
 pub mod standing;
 mod tried;
@@ -15,5 +14,4 @@ pub mod writes;
 
 pub use call::{CallRow, CallStart, Ending};
 pub use no_room::NoRoom;
-pub use scope_end::ScopeEnd;
 pub use tried::{MOST_TRIES, Tried};

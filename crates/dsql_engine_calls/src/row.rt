@@ -2,11 +2,11 @@
 ghost use Rattle.std.specs.Prelude.{◌≡◌, ℕ, false, is_some, length};
 ghost use Rattle.dsql_engine_calls.specs.Tried.{asks_again, has_another, next_is_last, number};
 ghost use Rattle.dsql_history.specs.journal.Kinds.{is_house, number_of};
-ghost use Rattle.dsql_engine_calls.specs.Calls.{begins_on, borrower, borrower_as, hands_out_on, is_pinning, options_of, pin_worked, row_at, rows_worked, tx_worked};
+ghost use Rattle.dsql_engine_calls.specs.Calls.{borrower, borrower_as, options_of, row_at, rows_worked, tx_worked};
 ghost use Rattle.dsql_engine_calls.specs.Settling.{told_last, told_served, told_trying};
 ghost use Rattle.dsql_history.specs.Readers.Decisions.{reply_to};
 ghost use Rattle.dsql_history.specs.Readers.Tries.{tries_again};
-ghost use Rattle.dsql_history.specs.Readers.Works.{aim_of, asks, closing_of, hands_out_in, inside, is_fetch, owner_as, scope};
+ghost use Rattle.dsql_history.specs.Readers.Works.{aim_of, asks, hands_out_in, is_fetch, owner_as, scope};
 
 use crate::call::CallRow;
 use crate::tried::Tried;
@@ -62,16 +62,6 @@ pub fn tx_ender_of(rows: &Vec<CallRow>, call: u32) -> u32
     }
 }
 
-/// Returns the call that closed the call's pin.
-pub fn pin_ender_of(rows: &Vec<CallRow>, call: u32) -> u32
-    ensures { result ≡ (row_at rows.now.items call).pin_ender }
-{
-    match rows.get(call as usize) {
-        Some(row) => row.pin_ender,
-        None => 0,
-    }
-}
-
 /// Returns whether the call fetches a row.
 pub fn fetches(rows: &Vec<CallRow>, call: u32) -> bool
     ensures { result ≡ is_fetch (row_at rows.now.items call).work }
@@ -92,8 +82,8 @@ pub fn asks(rows: &Vec<CallRow>, call: u32) -> bool
     }
 }
 
-/// Returns where the call's statement, begin or ping is carried out. Says nothing about calls on rows, transactions or
-/// pins themselves.
+/// Returns where the call's statement is carried out. Says nothing about calls on rows or on transactions
+/// themselves.
 pub fn scope_of(rows: &Vec<CallRow>, call: u32) -> Scope
     ensures { result ≡ scope (row_at rows.now.items call).work }
 {
@@ -103,8 +93,7 @@ pub fn scope_of(rows: &Vec<CallRow>, call: u32) -> Scope
     }
 }
 
-/// Returns the owner of the call's tenures: the transaction that it begins, the pin that it makes, otherwise the call
-/// itself.
+/// Returns the owner of the call's tenures: the transaction that it begins, otherwise the call itself.
 pub fn owner_of(rows: &Vec<CallRow>, call: u32) -> Owner
     ensures owner { result ≡ owner_as (row_at rows.now.items call).work call }
     ensures not_the_layer { is_house result ≡ false }
@@ -116,8 +105,8 @@ pub fn owner_of(rows: &Vec<CallRow>, call: u32) -> Owner
     }
 }
 
-/// Returns the call to which the connection is lent that the call uses. For rows this is the connection of their query,
-/// for a transaction that of the call that began it, for a pin and all on it that of the call that made the pin.
+/// Returns the call to which the connection is lent that the call uses. For rows this is the connection of
+/// their query, for a transaction that of the call that began it.
 pub fn borrower_of(rows: &Vec<CallRow>, call: u32) -> u32
     ensures { result ≡ borrower rows.now.items call }
 {
@@ -135,7 +124,6 @@ fn borrower_as(rows: &Vec<CallRow>, work: &Work, call: u32) -> u32
             works::borrower_in(scope_of(rows, *query), *query)
         }
         Work::End(tx) => *tx,
-        Work::EndWithin { pin, .. } | Work::Unpin(pin) => *pin,
         _ => works::borrower_in(works::scope(work), call),
     }
 }
@@ -179,89 +167,21 @@ pub fn tx_worked(rows: &Vec<CallRow>, call: u32) -> Option<u32>
 {
     match rows.get(call as usize) {
         Some(row) => match &row.work {
-            Work::End(tx) | Work::EndWithin { tx, .. } => Some(*tx),
+            Work::End(tx) => Some(*tx),
             _ => None,
         },
         None => None,
     }
 }
 
-/// Returns where a call in the transaction that this call began is carried out.
-pub fn inside(rows: &Vec<CallRow>, tx: u32) -> Scope
-    ensures { result ≡ inside (row_at rows.now.items tx).work tx }
-{
-    match rows.get(tx as usize) {
-        Some(row) => works::inside(&row.work, tx),
-        None => Scope::Held(tx),
-    }
-}
-
-/// Returns the work of a call that ends the transaction that this call began.
-pub fn closing_of(rows: &Vec<CallRow>, tx: u32) -> Work
-    ensures { result ≡ closing_of (row_at rows.now.items tx).work tx }
-{
-    match rows.get(tx as usize) {
-        Some(row) => works::closing_of(&row.work, tx),
-        None => Work::End(tx),
-    }
-}
-
-/// Returns the call whose pin the call closes, if it closes one.
-pub fn pin_worked(rows: &Vec<CallRow>, call: u32) -> Option<u32>
-    ensures { result ≡ pin_worked (row_at rows.now.items call).work }
-{
-    match rows.get(call as usize) {
-        Some(row) => match &row.work {
-            Work::Unpin(pin) => Some(*pin),
-            _ => None,
-        },
-        None => None,
-    }
-}
-
-/// Returns whether the call pins a connection of its own.
-pub fn is_pinning(rows: &Vec<CallRow>, call: u32) -> bool
-    ensures { result ≡ is_pinning (row_at rows.now.items call).work }
-{
-    match rows.get(call as usize) {
-        Some(row) => matches!(row.work, Work::Pin(_)),
-        None => false,
-    }
-}
-
-/// Returns whether the call hands out rows on that pin, and in no transaction.
-pub fn hands_out_on(rows: &Vec<CallRow>, call: u32, pin: u32) -> bool
-    ensures { result ≡ hands_out_on pin (row_at rows.now.items call).work }
-{
-    match rows.get(call as usize) {
-        Some(row) => works::hands_out_on(pin, &row.work),
-        None => false,
-    }
-}
-
-/// Returns whether the call begins a transaction on that pin.
-pub fn begins_on(rows: &Vec<CallRow>, call: u32, pin: u32) -> bool
-    ensures { result ≡ begins_on pin (row_at rows.now.items call).work }
-{
-    match rows.get(call as usize) {
-        Some(row) => works::begins_on(pin, &row.work),
-        None => false,
-    }
-}
-
-/// Returns the level of the transaction that the call begins, also on a pin, and whether that transaction only reads.
-/// Returns `None` if the call begins none.
+/// Returns the level of the transaction that the call begins, and whether that transaction only reads. Returns
+/// `None` if the call begins none.
 pub fn options_of(rows: &Vec<CallRow>, call: u32) -> Option<(Level, bool)>
     ensures { result ≡ options_of (row_at rows.now.items call).work }
 {
     match rows.get(call as usize) {
         Some(row) => match &row.work {
             Work::Begin {
-                level,
-                read_only,
-                ..
-            }
-            | Work::BeginOn {
                 level,
                 read_only,
                 ..
@@ -312,8 +232,8 @@ pub fn asks_again(rows: &Vec<CallRow>, call: u32) -> bool
     }
 }
 
-/// Returns whether the call's reply is settled: by what closed the database if the call has another try, otherwise by
-/// its newest try. A call that pins a connection has no more to do after it was served.
+/// Returns whether the call's reply is settled: by what closed the database if the call has another try,
+/// otherwise by its newest try.
 pub fn is_told_trying(rows: &Vec<CallRow>, call: u32, closed: Option<DbEnd>) -> bool
     ensures { result ≡ is_some (told_trying closed (row_at rows.now.items call).work
         (row_at rows.now.items call).tried) }
@@ -340,13 +260,12 @@ pub fn is_told_as_lent(rows: &Vec<CallRow>, call: u32, pinger: bool) -> bool
 
 /// Returns whether the newest of these tries, which is the last one, gives a call with this work a reply.
 fn is_told_by(work: &Work, tried: &Tried) -> bool
-    ensures { result ≡ is_some (told_last work.now tried.now.count tried.now.newest) }
+    ensures { result ≡ is_some (told_last (tries_again work.now tried.now.count) tried.now.count tried.now.newest) }
 {
     match &tried.newest {
         Some(Try::Refused(answer)) => gives_reply(works::tries_again(work, tried.count), answer),
         Some(Try::Lost) => !works::tries_again(work, tried.count),
-        Some(Try::Served) => matches!(work, Work::Pin(_)),
-        None => false,
+        _ => false,
     }
 }
 

@@ -3,15 +3,14 @@ ghost use Rattle.std.specs.Prelude.{◌≡◌, Some, true, is_some, vec_len, vec
 ghost use Rattle.dsql_history.specs.Readers.Course.{or_end};
 ghost use Rattle.dsql_history.specs.course.Made.{or_else};
 ghost use Rattle.dsql_engine_calls.specs.Calls.{row_at, with_row};
-ghost use Rattle.dsql_engine_calls.specs.Settling.{replied, settled_in, told_beside, told_by_tries_or_end, told_last, told_served, told_trying};
+ghost use Rattle.dsql_engine_calls.specs.Settling.{replied, settled_in, told_beside, told_by_tries_or_end, told_served, told_trying};
 ghost use Rattle.dsql_history.specs.Readers.Works.{scope};
 
 use crate::call::CallRow;
 use crate::replies::{bad_reply, reply_of};
-use crate::scope_end::ScopeEnd;
 use crate::tried::Tried;
 use crate::works::{scope, tries_again};
-use dsql_history::{DbEnd, Reply, Scope, Try, Work};
+use dsql_history::{DbEnd, Reply, Scope, Try, TxEnd, Work};
 use std::mem::replace;
 
 /// Returns what closed the database first, after this end has closed it. `closed_by` is what closed it earlier,
@@ -40,13 +39,13 @@ pub fn forget(calls: &mut Vec<CallRow>, call: u32)
 }
 
 /// Takes the settled reply out of a call's row. `closed_by` is what closed the database, if it is closed.
-/// `ended_by` is what ended the transaction or the pin on which the call works and has still sent nothing, if it has
-/// ended. `pinger` says whether the driver can ping.
+/// `ended_by` is what ended the transaction in which the call has still sent nothing, if the call is in one
+/// that has ended. `pinger` says whether the driver can ping.
 pub fn take_reply(
     calls: &mut Vec<CallRow>,
     call: u32,
     closed_by: Option<DbEnd>,
-    ended_by: Option<ScopeEnd>,
+    ended_by: Option<TxEnd>,
     pinger: bool,
 ) -> Reply
     requires { is_some (settled_in closed_by ended_by pinger (row_at calls.old.items call)) ≡ true }
@@ -67,7 +66,7 @@ pub fn take_reply(
 fn take_settled(
     row: &mut CallRow,
     closed_by: Option<DbEnd>,
-    ended_by: Option<ScopeEnd>,
+    ended_by: Option<TxEnd>,
     pinger: bool,
 ) -> Option<Reply>
     ensures reply { result ≡ settled_in closed_by ended_by pinger row.old }
@@ -86,61 +85,34 @@ fn told_in_row(
     work: &Work,
     tried: Tried,
     closed_by: Option<DbEnd>,
-    ended_by: Option<ScopeEnd>,
+    ended_by: Option<TxEnd>,
     pinger: bool,
 ) -> Option<Reply>
     ensures { result ≡ or_else (told_beside closed_by ended_by work.now tried)
         (told_served pinger work.now tried.newest) }
 {
-    let served = told_served(work, &tried.newest, pinger);
-    match told_beside(work, tried, closed_by, ended_by) {
-        Some(reply) => Some(reply),
-        None => served,
-    }
-}
-
-/// Returns the reply that the lending of a connection settles: that of a ping, if the driver can't ping.
-fn told_served(work: &Work, newest: &Option<Try>, pinger: bool) -> Option<Reply>
-    ensures { result ≡ told_served pinger work.now newest.now }
-{
-    match (work, newest) {
+    match (work, &tried.newest) {
+        (Work::Fetch(_), _) => Some(Reply::Truth(false)),
+        (Work::Close(_), _) => Some(Reply::Ok),
+        (Work::End(_) | Work::Look, _) => None,
         (Work::Ping, Some(Try::Served)) if !pinger => Some(Reply::Ok),
-        _ => None,
-    }
-}
-
-/// Returns the reply that others have settled for a call with this work and these tries.
-fn told_beside(
-    work: &Work,
-    tried: Tried,
-    closed_by: Option<DbEnd>,
-    ended_by: Option<ScopeEnd>,
-) -> Option<Reply>
-    ensures { result ≡ told_beside closed_by ended_by work.now tried }
-{
-    match work {
-        Work::Fetch(_) => Some(Reply::Truth(false)),
-        Work::Close(_) | Work::Unpin(_) => Some(Reply::Ok),
-        Work::End(_) | Work::EndWithin { .. } | Work::Look => None,
         _ => told_by_tries_or_end(work, tried, closed_by, ended_by),
     }
 }
 
-/// Returns the reply of a call with this work and these tries, if it is settled. The call works on the database, or in
-/// a transaction or on a pin where it has sent nothing.
+/// Returns the reply of a call with this work and these tries, if it is settled. The call works on the
+/// database, or in a transaction in which it has sent nothing.
 fn told_by_tries_or_end(
     work: &Work,
     tried: Tried,
     closed_by: Option<DbEnd>,
-    ended_by: Option<ScopeEnd>,
+    ended_by: Option<TxEnd>,
 ) -> Option<Reply>
     ensures { result ≡ told_by_tries_or_end closed_by ended_by work.now tried (scope work.now) }
 {
     match scope(work) {
         Scope::Db => told_trying(work, tried, closed_by),
-        Scope::Held(_) | Scope::Pinned(_) | Scope::Within { .. } => {
-            ended_by.map(|end| end.reply())
-        }
+        Scope::Held(_) => ended_by.map(Reply::TxDone),
     }
 }
 
@@ -149,21 +121,13 @@ fn told_trying(work: &Work, tried: Tried, closed_by: Option<DbEnd>) -> Option<Re
     ensures { result ≡ told_trying closed_by work.now tried }
 {
     if tried.has_another() {
-        closed_by.map(Reply::DbClosed)
-    } else {
-        told_last(work, tried.count, tried.newest)
+        return closed_by.map(Reply::DbClosed);
     }
-}
-
-/// Returns the reply that the newest try gives a call with this work, if that try is the last one and has this number.
-fn told_last(work: &Work, number: u32, newest: Option<Try>) -> Option<Reply>
-    ensures { result ≡ told_last work.now number newest }
-{
+    let number = tried.count;
     let again = tries_again(work, number);
-    match newest {
+    match tried.newest {
         Some(Try::Refused(answer)) => reply_of(again, number, answer),
         Some(Try::Lost) => bad_reply(again, number),
-        Some(Try::Served) => matches!(work, Work::Pin(_)).then_some(Reply::Ok),
-        None => None,
+        _ => None,
     }
 }

@@ -1,21 +1,18 @@
 //! Questions about a call, each answered from its work.
 ghost use Rattle.std.specs.Prelude.{◌≡◌, false};
-ghost use Rattle.dsql_engine_calls.specs.Calls.{begins_on, hands_out_on};
 ghost use Rattle.dsql_history.specs.journal.Kinds.{is_house, number_of};
 ghost use Rattle.dsql_history.specs.Readers.Tries.{tries_again};
-ghost use Rattle.dsql_history.specs.Readers.Works.{aim_of, asks, borrower_in, closing_of, hands_out_in, inside, is_in, owner_as, scope};
+ghost use Rattle.dsql_history.specs.Readers.Works.{aim_of, asks, borrower_in, hands_out_in, is_in, owner_as, scope};
 
 use crate::tried::MOST_TRIES;
 use dsql_history::{Aim, Owner, Scope, Task, Work};
 
-/// Returns where the statement, the begin or the ping is carried out. Says nothing about calls on rows, transactions or
-/// pins themselves.
+/// Returns where the statement is carried out. Says nothing about calls on rows or on transactions themselves.
 pub fn scope(work: &Work) -> Scope
     ensures { result ≡ scope work.now }
 {
     match work {
         Work::Statement(it, _) => *it,
-        Work::BeginOn { pin, .. } | Work::PingOn(pin) => Scope::Pinned(*pin),
         _ => Scope::Db,
     }
 }
@@ -26,7 +23,7 @@ pub fn asks(work: &Work) -> bool
 {
     match work {
         Work::Statement(it, _) => matches!(it, Scope::Db),
-        Work::Begin { .. } | Work::Pin(_) | Work::Ping => true,
+        Work::Begin { .. } | Work::Ping => true,
         _ => false,
     }
 }
@@ -45,25 +42,24 @@ pub fn aim_of(work: &Work) -> Aim
     match work {
         Work::Statement(_, Task::ReadOne(_)) => Aim::ReadOne,
         Work::Statement(_, Task::HandOut(_)) => Aim::HandOut,
-        Work::Ping | Work::PingOn(_) => Aim::Ping,
+        Work::Ping => Aim::Ping,
         _ => Aim::Execute,
     }
 }
 
-/// Returns the call to which a connection is lent for the statement of a call: the call itself, the one that began its
-/// transaction, or the one that pinned the connection.
+/// Returns the call to which a connection is lent for the statement of a call: the call itself, or the one that
+/// began its transaction.
 pub fn borrower_in(scope: Scope, call: u32) -> u32
     ensures { result ≡ borrower_in scope call }
 {
     match scope {
         Scope::Db => call,
         Scope::Held(tx) => tx,
-        Scope::Pinned(pin) | Scope::Within { pin, .. } => pin,
     }
 }
 
-/// Returns the owner of the tenures of a call with this work: the transaction that it begins, the pin that it makes,
-/// otherwise the call itself.
+/// Returns the owner of the tenures of a call with this work: the transaction that it begins, otherwise the
+/// call itself.
 pub fn owner_as(work: &Work, call: u32) -> Owner
     ensures owner { result ≡ owner_as work.now call }
     ensures not_the_layer { is_house result ≡ false }
@@ -71,7 +67,6 @@ pub fn owner_as(work: &Work, call: u32) -> Owner
 {
     match work {
         Work::Begin { .. } => Owner::Tx(call),
-        Work::Pin(_) => Owner::Pin(call),
         _ => Owner::Call(call),
     }
 }
@@ -81,8 +76,8 @@ pub fn is_in(tx: u32, scope: Scope) -> bool
     ensures { result ≡ is_in tx scope }
 {
     match scope {
-        Scope::Held(own) | Scope::Within { tx: own, .. } => own == tx,
-        Scope::Db | Scope::Pinned(_) => false,
+        Scope::Db => false,
+        Scope::Held(own) => own == tx,
     }
 }
 
@@ -93,45 +88,5 @@ pub fn hands_out_in(tx: u32, work: &Work) -> bool
     match work {
         Work::Statement(it, Task::HandOut(_)) => is_in(tx, *it),
         _ => false,
-    }
-}
-
-/// Returns whether the call hands out rows on that pin, and in no transaction.
-pub fn hands_out_on(pin: u32, work: &Work) -> bool
-    ensures { result ≡ hands_out_on pin work.now }
-{
-    match work {
-        Work::Statement(Scope::Pinned(own), Task::HandOut(_)) => *own == pin,
-        _ => false,
-    }
-}
-
-/// Returns whether the call begins a transaction on that pin.
-pub fn begins_on(pin: u32, work: &Work) -> bool
-    ensures { result ≡ begins_on pin work.now }
-{
-    match work {
-        Work::BeginOn { pin: own, .. } => *own == pin,
-        _ => false,
-    }
-}
-
-/// Returns where a call in the transaction that this call began with this work is carried out.
-pub fn inside(work: &Work, tx: u32) -> Scope
-    ensures { result ≡ inside work.now tx }
-{
-    match work {
-        Work::BeginOn { pin, .. } => Scope::Within { pin: *pin, tx },
-        _ => Scope::Held(tx),
-    }
-}
-
-/// Returns the work of a call that ends the transaction that this call began with this work.
-pub fn closing_of(work: &Work, tx: u32) -> Work
-    ensures { result ≡ closing_of work.now tx }
-{
-    match work {
-        Work::BeginOn { pin, .. } => Work::EndWithin { pin: *pin, tx },
-        _ => Work::End(tx),
     }
 }

@@ -6,7 +6,6 @@ use Rattle.dsql_laws_calls.specs.history.declared.event.Event.{Event}
 use Rattle.dsql_laws_calls.specs.history.Readers.Course as course
 use Rattle.dsql_laws_calls.specs.history.Readers.HandedOut as given
 use Rattle.dsql_laws_calls.specs.history.Readers.Owed.{owed}
-use Rattle.dsql_laws_calls.specs.history.Readers.Pins as pinned
 use Rattle.dsql_laws_calls.specs.history.Readers.Pool as pools
 use Rattle.dsql_laws_calls.specs.history.Readers.Transactions.{transactions}
 use Rattle.dsql_laws_calls.specs.history.Readers.Unfinished as left
@@ -47,10 +46,8 @@ pub record HasRoom (d : Desk) : Type 0 where
   pub sent : vec_len d.sent + d.paid ≤ vec_capacity d.sent
   pub labels : d.paid ≤ spare d.labels
   pub tx_labels : d.paid ≤ spare d.tx_labels
-  pub pin_labels : d.paid ≤ spare d.pin_labels
   pub rows : d.paid ≤ d.rows.spare
   pub txs : d.paid ≤ d.txs.spare
-  pub pins : d.paid ≤ d.pins.spare
 
 -- Holds if the desk agrees with its history in all but the pool and what closed the database.
 pub record Tables (d : Desk) : Type 0 where
@@ -67,13 +64,10 @@ pub record Tables (d : Desk) : Type 0 where
       ≡ position (kinds.hands_out_as label) (kinds.works (past d))
   pub tx_labels : (label : List ℕ) → get_by_text d.tx_labels label
       ≡ position (kinds.begins_as label) (kinds.works (past d))
-  pub pin_labels : (label : List ℕ) → get_by_text d.pin_labels label
-      ≡ position (kinds.pins_as label) (kinds.works (past d))
   pub rows : d.rows.rows ≡ given.handed_out (past d)
   pub once : AreMadeOnce (given.handed_out (past d))
   pub counted : length (kinds.works (past d)) ≤ most_counted + 1
   pub txs : d.txs.txs ≡ transactions (past d)
-  pub pins : d.pins.pins ≡ pinned.pins (past d)
   pub room : HasRoom d
 
 -- Holds if the tables, what closed the database, and the pool are those of the history.

@@ -4,18 +4,16 @@ use Rattle.dsql_laws_calls.specs.driver.declared.call.DriverCall.{DriverCall}
 use Rattle.dsql_laws_calls.specs.course.declared.course.Wish.TheVariants as wishes
 use Rattle.dsql_laws_calls.specs.history.declared.event.Event.{Event}
 use Rattle.dsql_laws_calls.specs.history.declared.work.Scope.{Scope}
-use Rattle.dsql_laws_calls.specs.history.declared.work.Scope.TheVariants.{Db, Held, Pinned, Within}
+use Rattle.dsql_laws_calls.specs.history.declared.work.Scope.TheVariants.{Db, Held}
 use Rattle.dsql_laws_calls.specs.history.Readers.Transactions.{tx_ender}
 use Rattle.dsql_laws_calls.specs.history.Rules.Ending.{ending}
-use Rattle.dsql_laws_calls.specs.history.Rules.Line.{sends_in, sends_on}
+use Rattle.dsql_laws_calls.specs.history.Rules.Line.{sends_in}
 use Rattle.dsql_laws_calls.specs.history.Rules.Sent.{line_of, sent_for, wish}
 
 -- Is true if call m is to send by itself: on a connection of its own if it asks for one, or in its transaction.
 abbrev pub is_to_send : List Event → ℕ → Bool → Scope → Bool
 is_to_send past m asking Db = asking
 is_to_send past m asking (Held k) = sends_in past m k
-is_to_send past m asking (Within pin k) = sends_in past m k
-is_to_send past m asking (Pinned pin) = sends_on past m pin
 
 -- Returns what call m sends if it is to send by itself.
 abbrev pub due_alone : List Event → ℕ → Bool → Scope → Option DriverCall

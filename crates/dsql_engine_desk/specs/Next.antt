@@ -7,7 +7,7 @@ use Rattle.dsql_laws_calls.specs.pool.declared.conn.Place.{Place}
 use Rattle.dsql_laws_calls.specs.pool.declared.conn.Place.TheVariants.{Lent}
 use Rattle.dsql_laws_calls.specs.history.declared.event.Event.{Event}
 use Rattle.dsql_laws_calls.specs.history.declared.work.Work.{Work}
-use Rattle.dsql_laws_calls.specs.history.declared.work.Work.TheVariants.{Fetch, Close, End, EndWithin, Unpin}
+use Rattle.dsql_laws_calls.specs.history.declared.work.Work.TheVariants.{Fetch, Close, End}
 use Rattle.dsql_laws_calls.specs.history.Readers.HandedOut.{rows_by}
 use Rattle.dsql_laws_calls.specs.history.Readers.Pool.{place, home}
 use Rattle.dsql_engine_lines.specs.declared.there.HeardThere.{HeardThere}
@@ -26,13 +26,11 @@ lent_under past n = lent_at n (home past n) (place past (home past n))
 abbrev pub there_at : List Event → ℕ → HeardThere
 there_at past c = slice_index_or (heard_there past) c nothing_there
 
--- Is true if a call with this work has a line of its own: it works over no rows ends no transaction and closes no pin.
+-- Is true if a call with this work has a line of its own: it works over no rows and ends no transaction.
 abbrev pub has_line : Work → Bool
 has_line (Fetch k) = false
 has_line (Close k) = false
 has_line (End k) = false
-has_line (EndWithin pin k) = false
-has_line (Unpin pin) = false
 has_line it = true
 
 -- Holds if nothing is wanted, or the rows of call k were made.

@@ -9,7 +9,6 @@ use dsql_engine_calls::{CallRow, NoRoom};
 use dsql_engine_lines::Lines;
 use dsql_engine_pooling::EventLog;
 use dsql_laws_calls::{Caps, DbEnd, Event, Pool, RowsTable, Txs};
-use dsql_pin::Pins;
 use indexmap::IndexMap;
 use std::alloc::Global;
 
@@ -38,14 +37,10 @@ pub struct Desk {
     pub labels: IndexMap<String, u32>,
     /// The first call that begins a transaction under each label.
     pub tx_labels: IndexMap<String, u32>,
-    /// The first call that pins a connection under each label.
-    pub pin_labels: IndexMap<String, u32>,
     /// The rows that were handed out, by the numbers of their queries.
     pub rows: RowsTable,
     /// The transactions, by the numbers of the calls that began them.
     pub txs: Txs,
-    /// The pins, by the numbers of the calls that made them.
-    pub pins: Pins,
     /// The number of further events for which there is memory.
     pub paid: usize,
 }
@@ -82,10 +77,8 @@ impl Desk {
             step: 0,
             labels: IndexMap::new(alloc),
             tx_labels: IndexMap::new(alloc),
-            pin_labels: IndexMap::new(alloc),
             rows: RowsTable::new(alloc),
             txs: Txs::new(alloc),
-            pins: Pins::new(alloc),
             paid: 0,
         }
     }
@@ -118,10 +111,8 @@ impl Desk {
         self.calls.reserve(count)?;
         self.labels.reserve(count)?;
         self.tx_labels.reserve(count)?;
-        self.pin_labels.reserve(count)?;
         self.rows.reserve(events)?;
         self.txs.reserve(events)?;
-        self.pins.reserve(events)?;
         self.pool.reserve(events)?;
         self.paid = count;
         Ok(())

@@ -17,7 +17,7 @@ ghost use Rattle.dsql_laws_calls.specs.history.Rules.Ending.{end_after, ending, 
 ghost use Rattle.dsql_laws_calls.specs.works.Line.{Asked};
 
 use crate::desk::Desk;
-use dsql_engine_calls::{ScopeEnd, row};
+use dsql_engine_calls::row;
 use dsql_engine_exchanged::{BareCall, Ending};
 use dsql_laws_calls::{Scope, TxEnd};
 
@@ -130,22 +130,20 @@ impl Desk {
         ensures { result ≡ is_late (past self.now) (scope (work (past self.now) call)) }
     {
         match self.scope(call) {
-            Scope::Db | Scope::Pinned(_) => false,
-            Scope::Held(tx) | Scope::Within { tx, .. } => self.tx_end(tx).is_some(),
+            Scope::Db => false,
+            Scope::Held(tx) => self.tx_end(tx).is_some(),
         }
     }
 
-    /// Returns what has ended the transaction or the pin on which a call works and has sent nothing. Returns `None` if
+    /// Returns what has ended the transaction in which a call works and has sent nothing. Returns `None` if
     /// nothing has, or the call has sent something there.
-    pub(crate) fn ended_before(&self, call: u32) -> Option<ScopeEnd>
+    pub(crate) fn ended_before(&self, call: u32) -> Option<TxEnd>
         requires { Stands self.now }
         ensures { result ≡ ended_before (past self.now) call }
     {
         match self.scope(call) {
-            Scope::Db => None,
-            _ if self.has_begun(call) => None,
-            Scope::Held(tx) | Scope::Within { tx, .. } => self.tx_end(tx).map(ScopeEnd::Tx),
-            Scope::Pinned(pin) => self.pin_end(pin).map(ScopeEnd::Pin),
+            Scope::Held(tx) if !self.has_begun(call) => self.tx_end(tx),
+            _ => None,
         }
     }
 

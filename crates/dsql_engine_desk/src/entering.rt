@@ -7,14 +7,13 @@ ghost use Rattle.dsql_engine_effects.specs.Starts.{Starts, label_made};
 ghost use Rattle.dsql_laws_calls.specs.history.Readers.Calls.{target_refused};
 ghost use Rattle.dsql_laws_calls.specs.history.Readers.Labels.{is_made, names_fit};
 ghost use Rattle.dsql_laws_calls.specs.history.Readers.Unfinished.{is_unfinished};
-ghost use Rattle.dsql_laws_calls.specs.history.Readers.Works.{label_scope, scope_of, tx_maker, works};
+ghost use Rattle.dsql_laws_calls.specs.history.Readers.Works.{scope_of, tx_maker, works};
 ghost use Rattle.dsql_laws_calls.specs.history.declared.event.Op.TheVariants as ops;
 
 use crate::desk::Desk;
-use dsql_engine_calls::row;
 use dsql_engine_calls::{CallStart, Ending, NoRoom};
 use dsql_engine_effects::starting::{
-    accept, begin_told, over_begin, over_end, over_pin, over_rows, over_text, told_on,
+    accept, begin_told, over_begin, over_end, over_rows, over_text, told_on,
 };
 use dsql_laws_calls::{
     Args, Dests, Label, Level, Op, Reply, Scope, Target, Task, TxEnd, Txt, Work,
@@ -46,15 +45,15 @@ impl Desk {
             } => self.entering_one(alloc, target, dests, text, args),
             Op::Begin {
                 label,
-                target,
                 level,
                 read_only,
-            } => self.entering_begin(alloc, label, target, *level, *read_only),
+            } => self.entering_begin(alloc, label, *level, *read_only),
             Op::Commit { tx } => self.entering_end(alloc, tx, TxEnd::Commit),
             Op::Rollback { tx } => self.entering_end(alloc, tx, TxEnd::Rollback),
-            Op::Conn { label } => over_pin(alloc, label, self.closed_by.map(Reply::DbClosed)),
-            Op::ConnClose { pin } => self.entering_unpin(alloc, pin),
-            Op::Ping { target } => self.entering_ping(alloc, target),
+            Op::Ping => {
+                let decided = self.closed_by.map(Reply::DbClosed);
+                Ok(over_rows(alloc, Work::Ping, None, decided))
+            }
             Op::Next { rows } => self.entering_next(alloc, rows),
             Op::Scan { rows, dests } => self.entering_scan(alloc, rows, dests.as_slice()),
             Op::RowsClose { rows } => self.entering_close(alloc, rows),
@@ -73,20 +72,18 @@ impl Desk {
         ensures { result ≡ names_fit (past self.now) op.now }
     {
         match op {
-            Op::Query { label, .. } | Op::Begin { label, .. } | Op::Conn { label } => !self.is_made(label),
+            Op::Query { label, .. } | Op::Begin { label, .. } => !self.is_made(label),
             _ => true,
         }
     }
 
-    /// Returns whether a call that has entered makes the label, for rows, for a transaction or for a pin.
+    /// Returns whether a call that has entered makes the label, for rows or for a transaction.
     fn is_made(&self, label: &Txt) -> bool
         requires { Stands self.now }
         ensures { result ≡ is_made (past self.now) label.now }
     {
         let name = label.as_str();
-        self.labels.contains_key(name)
-            || self.tx_labels.contains_key(name)
-            || self.pin_labels.contains_key(name)
+        self.labels.contains_key(name) || self.tx_labels.contains_key(name)
     }
 
     /// Returns what the desk records of an `ExecContext`.
@@ -161,15 +158,14 @@ impl Desk {
         &self,
         alloc: Global,
         label: &Txt,
-        target: &Target,
         level: Level,
         read_only: bool,
     ) -> Result<CallStart, NoRoom>
         requires { Stands self.now }
-        ensures { IfOk result (λ it. Starts (past self.now) (ops.Begin label.now target.now level read_only) it) }
+        ensures { IfOk result (λ it. Starts (past self.now) (ops.Begin label.now level read_only) it) }
     {
-        let told = begin_told(self.conn_told(target)?, self.caps.begin_options, level, read_only);
-        over_begin(alloc, self.pin_of(target), label, level, read_only, told)
+        let told = begin_told(self.closed_by, self.caps.begin_options, level, read_only);
+        over_begin(alloc, label, level, read_only, told)
     }
 
     /// Returns what the desk records of a `Tx.Commit` or a `Tx.Rollback`.
@@ -180,7 +176,7 @@ impl Desk {
         let tx = self.tx_maker(label);
         let ends = self.ending_of(tx, by);
         let told = told_on(&self.txs, self.tx_named(label), label)?;
-        Ok(over_end(alloc, row::closing_of(&self.calls, tx), ends, told))
+        Ok(over_end(alloc, tx, ends, told))
     }
 
     /// Returns the ending that a call makes as it enters to end a transaction. Returns `None` if the
@@ -203,7 +199,6 @@ impl Desk {
     {
         match target {
             Target::Db => Ok(self.closed_by.map(Reply::DbClosed)),
-            Target::Label(label) if self.pin_maker(label) != 0 => self.pin_told(label),
             Target::Label(tx) => told_on(&self.txs, self.tx_named(tx), tx),
         }
     }
@@ -215,18 +210,7 @@ impl Desk {
     {
         match target {
             Target::Db => Scope::Db,
-            Target::Label(label) => self.label_scope(label),
-        }
-    }
-
-    /// Returns where a statement on the pin or the transaction of this label is carried out.
-    fn label_scope(&self, label: &Txt) -> Scope
-        requires { Stands self.now }
-        ensures { result ≡ label_scope (works (past self.now)) label.now }
-    {
-        match self.pin_maker(label) {
-            0 => row::inside(&self.calls, self.tx_maker(label)),
-            pin => Scope::Pinned(pin),
+            Target::Label(tx) => Scope::Held(self.tx_maker(tx)),
         }
     }
 

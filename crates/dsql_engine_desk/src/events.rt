@@ -179,8 +179,7 @@ impl Desk {
         requires { MayAppend self.old (Event.Replied call reply) }
         ensures { Appends self.old self.new (Event.Replied call reply) }
     {
-        let conn = self.home(call);
-        self.add_reply(call, conn, reply);
+        self.add_reply(call, reply);
     }
 
     /// Records that a call has the reply that is settled.
@@ -190,8 +189,7 @@ impl Desk {
         ensures { Appends self.old self.new (Event.Replied call (reply_now (past self.old) call)) }
     {
         let ended_by = self.ended_before(call);
-        let conn = self.home(call);
-        self.add_due_reply(call, conn, ended_by);
+        self.add_due_reply(call, ended_by);
     }
 
     // Records that the run ended. The desk then owes the moves that this makes due.

@@ -7,7 +7,6 @@ mod deciding;
 mod desk;
 mod ending;
 mod entering;
-mod entering_pins;
 mod entering_rows;
 mod events;
 mod next;

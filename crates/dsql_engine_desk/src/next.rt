@@ -10,13 +10,12 @@ ghost use Rattle.dsql_engine_exchanged.specs.Inside.{inside_told};
 ghost use Rattle.dsql_laws_calls.specs.history.Readers.Course.{caps};
 ghost use Rattle.dsql_laws_calls.specs.history.Readers.HandedOut.{rows_by};
 ghost use Rattle.dsql_laws_calls.specs.history.Readers.Works.{borrower, work};
-ghost use Rattle.dsql_laws_calls.specs.history.Rules.Sent.{asked_by, begin_line, is_reset_due, line_of, pin_line};
+ghost use Rattle.dsql_laws_calls.specs.history.Rules.Sent.{asked_by, begin_line, is_reset_due, line_of};
 ghost use Rattle.dsql_engine_lines.specs.Inside.{line_at, lines};
 ghost use Rattle.dsql_engine_exchanged.specs.Lines.{line_told};
 ghost use Rattle.dsql_laws_calls.specs.works.Line.{Asked};
 
 use crate::desk::Desk;
-use dsql_engine_calls::row;
 use dsql_engine_exchanged::{BareCall, Beginning, Exchanged, Inside, Line};
 use dsql_laws_calls::{Level, Place, Scope, Wish};
 
@@ -62,17 +61,11 @@ impl Desk {
         requires lent { lent_under (past self.now) (borrower (past self.now) call) ≡ Some conn }
         ensures { option_map (filled (asked_by (past self.now) call)) result ≡ line_of (past self.now) call wish }
     {
-        if row::is_pinning(&self.calls, call) {
-            return self.pins_next(conn);
-        }
         match self.options(call) {
-            Some((level, read_only)) => match self.scope(call) {
-                Scope::Db => self.begins_next(conn, level, read_only),
-                _ => self.begins_on_pin(call, level, read_only),
-            },
+            Some((level, read_only)) => self.begins_next(conn, level, read_only),
             None => match self.scope(call) {
                 Scope::Db => self.sends_next(conn, call, wish),
-                _ => self.goes_next(conn, call, wish),
+                Scope::Held(_) => self.goes_next(conn, call, wish),
             },
         }
     }
@@ -87,24 +80,6 @@ impl Desk {
         let reset_due = self.is_reset_due(conn);
         self.beginning_on(conn)
             .next(self.caps, reset_due, level, read_only)
-    }
-
-    /// Returns the next driver call there of a call that pins the connection.
-    fn pins_next(&self, conn: u32) -> Option<BareCall>
-        requires { Stands self.now }
-        ensures { (asked : Asked) (line : List EntryOf) → beginning_in line ≡ (there_at (past self.now) conn).beginning
-            → option_map (filled asked) result ≡ pin_line (is_reset_due (past self.now) conn) line }
-    {
-        self.beginning_on(conn).next_of_pin(self.is_reset_due(conn))
-    }
-
-    /// Returns the next driver call of a call that begins a transaction with these options on a pin.
-    fn begins_on_pin(&self, call: u32, level: Level, read_only: bool) -> Option<BareCall> {
-        let beginning = match self.lines.calls.get(call as usize) {
-            Some(line) => line.beginning,
-            None => Beginning::new(),
-        };
-        beginning.next_on_pin(level, read_only)
     }
 
     /// Returns what was heard on a connection about the begin of the transaction to which it is lent.

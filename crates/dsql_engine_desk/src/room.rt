@@ -69,6 +69,5 @@ fn nobody(alloc: Global) -> CallRow
         tried: Tried::new(),
         ender: 0,
         tx_ender: 0,
-        pin_ender: 0,
     }
 }

@@ -170,8 +170,7 @@ impl Desk {
     {
         match self.scope(call) {
             Scope::Db => self.asks(call),
-            Scope::Held(tx) | Scope::Within { tx, .. } => self.sends_in(call, tx),
-            Scope::Pinned(pin) => self.sends_on(call, pin),
+            Scope::Held(tx) => self.sends_in(call, tx),
         }
     }
 

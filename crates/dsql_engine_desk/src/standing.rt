@@ -9,7 +9,7 @@ ghost use Rattle.dsql_laws_calls.specs.history.Readers.Calls.{reply_due, rests, 
 ghost use Rattle.dsql_laws_calls.specs.history.Readers.Pool.{pool};
 ghost use Rattle.dsql_laws_calls.specs.history.Readers.Tries.{asks_again, asks_last, tries};
 ghost use Rattle.dsql_laws_calls.specs.history.Readers.Unfinished.{is_unfinished, unfinished};
-ghost use Rattle.dsql_engine_calls.specs.Calls.{pin_worked, rows_worked};
+ghost use Rattle.dsql_engine_calls.specs.Calls.{rows_worked};
 ghost use Rattle.dsql_laws_calls.specs.history.Readers.Works.{asks, work};
 ghost use Rattle.dsql_laws_calls.specs.history.Rules.Asking.{may_ask, may_try};
 ghost use Rattle.dsql_laws_calls.specs.history.Rules.House.{is_quiet};
@@ -146,24 +146,20 @@ impl Desk {
     {
         match self.rows_worked(call) {
             Some(query) => !self.fetches(call) || self.are_over(query),
-            None => match row::pin_worked(&self.calls, call) {
-                Some(pin) => self.home(pin) == 0,
-                None => self.is_told_alone(call),
-            },
+            None => self.is_told_alone(call),
         }
     }
 
-    /// Returns whether others have settled the reply of an unfinished call that works on no rows and closes no pin.
+    /// Returns whether others have settled the reply of an unfinished call that works on no rows.
     fn is_told_alone(&self, call: u32) -> bool
         requires stands { Stands self.now }
         requires unfinished { is_unfinished (past self.now) call ≡ true }
         requires no_rows { rows_worked (work (past self.now) call) ≡ None }
-        requires no_pin { pin_worked (work (past self.now) call) ≡ None }
         ensures { result ≡ is_some (told_by_others (past self.now) call) }
     {
         match self.scope(call) {
             Scope::Db => self.asks(call) && self.is_told_by_tries(call),
-            _ => self.ended_before(call).is_some(),
+            Scope::Held(_) => self.ended_before(call).is_some(),
         }
     }
 

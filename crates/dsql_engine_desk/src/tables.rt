@@ -10,7 +10,6 @@ ghost use Rattle.dsql_engine_calls.specs.Calls.{row_at};
 ghost use Rattle.dsql_engine_effects.specs.Starts.{Starts};
 ghost use Rattle.dsql_laws_calls.specs.history.Readers.HandedOut.{handed_out};
 ghost use Rattle.dsql_laws_calls.specs.history.Readers.Owed.{owed};
-ghost use Rattle.dsql_laws_calls.specs.history.Readers.Pool.{home};
 ghost use Rattle.dsql_laws_calls.specs.history.Readers.Transactions.{transactions};
 ghost use Rattle.dsql_laws_calls.specs.history.Readers.Works.{work, works};
 ghost use Rattle.dsql_engine_calls.specs.Tried.{most_counted};
@@ -19,13 +18,12 @@ use crate::desk::Desk;
 use dsql_engine_calls::settling::{forget, take_reply};
 use dsql_engine_calls::tries::{note_tries, note_try};
 use dsql_engine_calls::writes::{put, take_out};
-use dsql_engine_calls::{CallRow, CallStart, ScopeEnd, Tried};
+use dsql_engine_calls::{CallRow, CallStart, Tried};
 use dsql_engine_effects::ending::{end_run, end_tx};
 use dsql_engine_effects::labels::note_label;
-use dsql_engine_effects::pins::{close_pin, note_pin, tell_pin};
 use dsql_engine_effects::rows::close_rows;
 use dsql_engine_effects::tell_answer;
-use dsql_laws_calls::{CallRecord, DriverAnswer, Entry, Event, Move, Op, Reply};
+use dsql_laws_calls::{CallRecord, DriverAnswer, Entry, Event, Move, Op, Reply, TxEnd};
 
 #[tactic(auto)]
 impl Desk {
@@ -51,7 +49,6 @@ impl Desk {
             start.ends,
             call,
         );
-        close_pin(&mut self.calls, &mut self.pins, start.unpins, call);
         put(
             &mut self.calls,
             CallRow {
@@ -65,7 +62,6 @@ impl Desk {
                 tried: Tried::new(),
                 ender: 0,
                 tx_ender: 0,
-                pin_ender: 0,
             },
         );
         put(&mut self.unfinished, call);
@@ -73,7 +69,6 @@ impl Desk {
         self.lines.note_call();
         note_label(&mut self.labels, start.label, call);
         note_label(&mut self.tx_labels, start.tx_label, call);
-        note_label(&mut self.pin_labels, start.pin_label, call);
     }
 
     /// Adds the driver's answer on a lent connection. `copy` is a copy of the answer, and `reply` is what the
@@ -98,7 +93,6 @@ impl Desk {
             copy,
             reply,
         );
-        tell_pin(&mut self.pins, &entry);
         self.history.note(Event::Heard(entry));
     }
 
@@ -154,23 +148,24 @@ impl Desk {
         self.history.note(event);
     }
 
-    /// Adds the reply of a call. `conn` is the connection that the call has; 0 for none.
-    pub(crate) fn add_reply(&mut self, call: u32, conn: u32, reply: Reply)
-        requires may { MayAdd self.old (Event.Replied call reply) }
-        requires conn { conn ≡ home (past self.old) call }
+    /// Adds the reply of a call.
+    pub(crate) fn add_reply(&mut self, call: u32, reply: Reply)
+        requires { MayAdd self.old (Event.Replied call reply) }
         ensures { Adds self.old self.new (Event.Replied call reply) }
     {
+        self.paid -= 1;
+        self.step = 0;
         forget(&mut self.calls, call);
-        self.finish(call, conn, reply);
+        self.history.note(Event::Replied { n: call, reply });
+        take_out(&mut self.unfinished, call);
     }
 
-    /// Adds the reply that a call's row says it has. `ended_by` is what has ended the transaction or the pin on which the
+    /// Adds the reply that a call's row says it has. `ended_by` is what has ended the transaction in which the
     /// call has sent nothing, if something has.
-    pub(crate) fn add_due_reply(&mut self, call: u32, conn: u32, ended_by: Option<ScopeEnd>)
+    pub(crate) fn add_due_reply(&mut self, call: u32, ended_by: Option<TxEnd>)
         requires may { MayAdd self.old (Event.Replied call
             (reply_or (settled_in self.old.closed_by ended_by self.old.caps.pinger
             (row_at self.old.calls.items call)))) }
-        requires conn { conn ≡ home (past self.old) call }
         requires due { is_some (settled_in self.old.closed_by ended_by self.old.caps.pinger
             (row_at self.old.calls.items call)) ≡ true }
         ensures { Adds self.old self.new
@@ -184,15 +179,8 @@ impl Desk {
             ended_by,
             self.caps.pinger,
         );
-        self.finish(call, conn, reply);
-    }
-
-    /// Records the reply of a call, the pin that the call makes with it, and that the call is finished.
-    fn finish(&mut self, call: u32, conn: u32, reply: Reply)
-    {
         self.paid -= 1;
         self.step = 0;
-        note_pin(&mut self.pins, &self.calls, call, conn, &reply);
         self.history.note(Event::Replied { n: call, reply });
         take_out(&mut self.unfinished, call);
     }
@@ -207,7 +195,7 @@ impl Desk {
         self.step = 0;
         self.history.note(Event::Ended);
         self.ended = true;
-        end_run(&self.calls, &mut self.rows, &mut self.txs, &mut self.pins);
+        end_run(&self.calls, &mut self.rows, &mut self.txs);
     }
 }
 

@@ -1,7 +1,7 @@
 -- The end of a transaction does to the rows and the transactions what the history says. The end of the run does so to
 -- the rows. The argument is that only rows of queries after the begin are in the transaction.
 use Rattle.std.proofs.Common.{◌≡◌, ℕ, zero, suc, ◌<◌, ◌≤◌, ◌⊎◌, inl, inr, Bool, true, false, ◌&&◌, List, [], ◌∷◌, ◌++◌, length, Option, Some, None, refl, sym, ap, ◌∙◌, arith, le-leb, lt-ltb, eqb-true}
-use Rattle.std.specs.Prelude.{◌==◌, cond, nat_le, nat_lt, position, slice_index_or}
+use Rattle.std.specs.Prelude.{nat_le, nat_lt, position, slice_index_or}
 use Rattle.std.proofs.lemmas.List.Quantifiers.{position-Some}
 use Rattle.dsql_history.specs.numbered.Numbered.{Numbered, all_changed}
 use Rattle.dsql_history.specs.rows.declared.end.RowsEnd.TheVariants as ends
@@ -21,11 +21,11 @@ use Rattle.dsql_history.specs.declared.event.Target.TheVariants as targets
 use Rattle.dsql_history.specs.declared.work.Scope.{Scope}
 use Rattle.dsql_history.specs.declared.work.Scope.TheVariants as scopes
 use Rattle.dsql_history.specs.declared.work.Work.{Work}
-use Rattle.dsql_history.specs.declared.work.Work.TheVariants.{BeginOn, Look}
+use Rattle.dsql_history.specs.declared.work.Work.TheVariants.{Look}
 use Rattle.dsql_history.specs.Readers.HandedOut.{born, ended_with, last_end, rows_at_end}
 use Rattle.dsql_history.specs.Readers.Transactions.{ends_as}
 use Rattle.dsql_history.specs.Readers.Unfinished.{is_unfinished}
-use Rattle.dsql_history.specs.Readers.Works.{begins_as, closing_of, hands_out_in, inside, is_in, label_scope, pin_maker, scope, tx_maker, tx_scope, work, work_at, work_of, works}
+use Rattle.dsql_history.specs.Readers.Works.{begins_as, hands_out_in, scope, tx_maker, work, work_of, works}
 use Rattle.dsql_engine_effects.specs.Ended.{is_inside, is_such, numbered, rows_ended, rows_with_end, txs_with_end, works_inside}
 use Rattle.dsql_engine_effects.specs.Once.{AreMadeOnce}
 use Rattle.dsql_engine_effects.specs.Starts.{ending_of}
@@ -51,30 +51,9 @@ maker_within ws label = by (position (begins_as label) ws) refl
     by None is = omega arith
     by (Some k) is = let found = position-Some (begins_as label) ws k Look is in let within = found.0 in omega (arith, within)
 
-inside_is : (w : Work) (n k : ℕ) → is_in k (inside w n) ≡ true → n ≡ k
-inside_is (BeginOn pin label level read_only) n k is = eqb-true n k is
-inside_is _ n k is = eqb-true n k is
-
-label_in : (ws : List Work) (label : List ℕ) (k : ℕ) → is_in k (label_scope ws label) ≡ true → tx_maker ws label ≡ k
-label_in ws label k =
-    elim (pin_maker ws label == 0) as (λ b. is_in k (cond b (tx_scope ws (tx_maker ws label)) (scopes.Pinned (pin_maker ws label))) ≡ true → tx_maker ws label ≡ k) [
-      | true ↦ λ is. inside_is (work_at ws (tx_maker ws label)) (tx_maker ws label) k is
-      | false ↦ λ is. absurd cc
-    ]
-
-end_hands_none : (w : Work) (n k : ℕ) → hands_out_in k (closing_of w n) ≡ false
-end_hands_none (BeginOn pin label level read_only) n k = refl
-end_hands_none _ n k = refl
-
 handed_in : (ws : List Work) (op : Op) (k : ℕ) → hands_out_in k (work_of ws op) ≡ true → k ≤ length ws
-handed_in ws (ops.Query label (targets.Label tx) text args) k is = let at = label_in ws tx k is in let within = maker_within ws tx in omega (arith, at, within)
+handed_in ws (ops.Query label (targets.Label tx) text args) k is = let at : tx_maker ws tx ≡ k = eqb-true (tx_maker ws tx) k is in let within = maker_within ws tx in omega (arith, at, within)
 handed_in ws (ops.Query label targets.Db text args) k is = absurd cc
-handed_in ws (ops.Begin label targets.Db level read_only) k is = absurd cc
-handed_in ws (ops.Begin label (targets.Label pin) level read_only) k is = absurd cc
-handed_in ws (ops.Ping targets.Db) k is = absurd cc
-handed_in ws (ops.Ping (targets.Label pin)) k is = absurd cc
-handed_in ws (ops.Commit tx) k is = absurd (let none = end_hands_none (work_at ws (tx_maker ws tx)) (tx_maker ws tx) k in let no : false ≡ true = sym none ∙ is in cc)
-handed_in ws (ops.Rollback tx) k is = absurd (let none = end_hands_none (work_at ws (tx_maker ws tx)) (tx_maker ws tx) k in let no : false ≡ true = sym none ∙ is in cc)
 handed_in ws op k is = absurd cc
 
 pub handed_out_later : (H : List Event) (k q : ℕ) → hands_out_in k (work H q) ≡ true → k ≤ q
@@ -151,9 +130,8 @@ ended_first first later rows = by (is_live rows) refl
     by false is = rw is (rw is refl)
 
 ends_at_last : (it : Scope) (rows : Rows) → ended_by ends.EndOfRun (born (is_inside it) rows) ≡ ended_by (last_end it) rows
+ends_at_last scopes.Db rows = refl
 ends_at_last (scopes.Held k) rows = ended_first ends.TxEnded ends.EndOfRun rows
-ends_at_last (scopes.Within pin k) rows = ended_first ends.TxEnded ends.EndOfRun rows
-ends_at_last _ rows = refl
 
 changed_each : (change : Rows → Rows) (f : ℕ → Rows → Rows) (rows : Made) → all_changed change (each f rows) ≡ each (λ q r. change (f q r)) rows
 changed_each change f [] = refl

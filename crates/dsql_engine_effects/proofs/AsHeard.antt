@@ -1,4 +1,4 @@
--- What the tables of rows, of transactions and of pins say is what the history says. The argument compares both case by
+-- What the tables of rows and of transactions say is what the history says. The argument compares both case by
 -- case.
 use Rattle.std.proofs.Common.{◌≡◌, ℕ, true, false, List, Some, None, refl}
 use Rattle.dsql_history.specs.driver.declared.call.DriverCall.{DriverCall}
@@ -7,27 +7,20 @@ use Rattle.dsql_history.specs.driver.declared.answer.DriverAnswer.{DriverAnswer}
 use Rattle.dsql_history.specs.driver.declared.answer.DriverAnswer.TheVariants.{Cursor}
 use Rattle.dsql_history.specs.works.HandedOut.{Made}
 use Rattle.dsql_history.specs.declared.event.Event.{Event}
-use Rattle.dsql_history.specs.declared.reply.Reply.{Reply}
-use Rattle.dsql_history.specs.declared.reply.Reply.TheVariants.{Ok}
-use Rattle.dsql_history.specs.declared.work.Scope.TheVariants.{Db, Held, Pinned, Within}
+use Rattle.dsql_history.specs.declared.work.Scope.TheVariants.{Db, Held}
 use Rattle.dsql_history.specs.declared.work.Work.{Work}
 use Rattle.dsql_history.specs.declared.work.Task.TheVariants.{HandOut}
 use Rattle.dsql_history.specs.declared.work.Work.TheVariants.{Statement, Fetch}
-use Rattle.dsql_history.specs.Readers.Calls.{is_there, pin_refused, tx_refused}
+use Rattle.dsql_history.specs.Readers.Calls.{is_there, tx_refused}
 use Rattle.dsql_history.specs.Readers.HandedOut.{rows_heard}
-use Rattle.dsql_history.specs.Readers.Pins.{is_pinned, pins, pin_replied}
-use Rattle.dsql_history.specs.Readers.Pool.{home}
 use Rattle.dsql_history.specs.Readers.Transactions.{transactions}
-use Rattle.dsql_history.specs.Readers.Works.{work, works, pin_maker, tx_maker}
+use Rattle.dsql_history.specs.Readers.Works.{works, tx_maker}
 use Rattle.dsql_engine_effects.specs.Heard.{rows_after}
-use Rattle.dsql_engine_effects.specs.Pins.{pins_after}
-use Rattle.dsql_engine_effects.specs.Starting.{told_on, told_on_pin}
+use Rattle.dsql_engine_effects.specs.Starting.{told_on}
 
 pub rows_as_heard : (H : List Event) (it : Work) (n : ℕ) (call : DriverCall) (answer : DriverAnswer) (rows : Made) → rows_after (transactions H) it n call answer rows ≡ rows_heard H it n call answer rows
 rows_as_heard H (Statement Db (HandOut label)) n (Query input params) (Cursor cursor columns) rows = refl
 rows_as_heard H (Statement (Held k) (HandOut label)) n (Query input params) (Cursor cursor columns) rows = refl
-rows_as_heard H (Statement (Pinned pin) (HandOut label)) n (Query input params) (Cursor cursor columns) rows = refl
-rows_as_heard H (Statement (Within pin k) (HandOut label)) n (Query input params) (Cursor cursor columns) rows = refl
 rows_as_heard H (Statement it (HandOut label)) n (Query input params) answer rows = refl
 rows_as_heard H (Fetch k) n (Next cursor) answer rows = refl
 rows_as_heard H it n call answer rows = refl
@@ -39,16 +32,3 @@ told_there H label k is there = rw (← is, there) refl
 
 pub told_absent : (H : List Event) (label : List ℕ) → is_there H (tx_maker (works H) label) ≡ false → told_on label None (transactions H) ≡ tx_refused H label
 told_absent H label none = rw none refl
-
--- If a pin of the label was made, the table gives a call on it the reply that the history gives. The next lemma says the
--- same if none was made.
-pub pin_told_there : (H : List Event) (label : List ℕ) (p : ℕ) → p ≡ pin_maker (works H) label → is_pinned H p ≡ true → told_on_pin label (Some p) (pins H) ≡ pin_refused H label
-pin_told_there H label p is made = rw (← is, made) refl
-
-pub pin_told_absent : (H : List Event) (label : List ℕ) → is_pinned H (pin_maker (works H) label) ≡ false → told_on_pin label None (pins H) ≡ pin_refused H label
-pin_told_absent H label none = rw none refl
-
--- A reply does to the pins what the history says.
-pub pins_as_replied : (H : List Event) (n : ℕ) (reply : Reply) → pins_after (work H n) n (home H n) reply (pins H) ≡ pin_replied H n reply (pins H)
-pins_as_replied H n Ok = refl
-pins_as_replied H n _ = refl

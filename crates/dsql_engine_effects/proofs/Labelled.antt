@@ -3,7 +3,7 @@
 use Rattle.std.proofs.Common.{◌≡◌, ℕ, Bool, true, false, cond, List, refl, sym, ap, ◌∙◌, Option, Some, None, is_some, ◌+◌, ◌≤◌, nat_lt, eqb, [], ◌∷◌, ◌++◌, length, arith, inl, inr, length-append}
 use Rattle.std.specs.Prelude.{bytes_eq, not, position}
 use Rattle.std.proofs.lemmas.Slice.Eq.{bytes_eq-Decides}
-use Rattle.dsql_engine_effects.specs.Starts.{labelled, label_made, pin_label_made, tx_label_made}
+use Rattle.dsql_engine_effects.specs.Starts.{labelled, label_made, tx_label_made}
 use Rattle.std.specs.List.{position_or_len}
 use Rattle.std.proofs.lemmas.List.Sums.{prefix_len-le-length}
 use Rattle.std.proofs.lemmas.Bool.{cases_Bool}
@@ -11,8 +11,8 @@ use Rattle.std.proofs.lemmas.Bool.Decides.{nat_tests}
 use Rattle.std.proofs.lemmas.List.Folds.{position_or_len_push}
 use Rattle.dsql_history.specs.declared.work.Work.{Work}
 use Rattle.dsql_history.specs.declared.work.Task.TheVariants.{HandOut}
-use Rattle.dsql_history.specs.declared.work.Work.TheVariants.{Statement, Begin, BeginOn, Pin}
-use Rattle.dsql_history.specs.Readers.Works.{begins_as, hands_out_as, pins_as}
+use Rattle.dsql_history.specs.declared.work.Work.TheVariants.{Statement, Begin}
+use Rattle.dsql_history.specs.Readers.Works.{begins_as, hands_out_as}
 
 -- A label that is put into a map.
 
@@ -72,17 +72,8 @@ tx_as : (w : Work) (n : ℕ) (label : List ℕ) (earlier : Option ℕ) → label
 unfolding with_last
 tx_as (Begin made level read_only) n label None = elim (cases_Bool (bytes_eq made label)) [ inl same ↦ rw same refl | inr other ↦ rw other refl ]
 tx_as (Begin made level read_only) n label (Some m) = refl
-tx_as (BeginOn pin made level read_only) n label None = elim (cases_Bool (bytes_eq made label)) [ inl same ↦ rw same refl | inr other ↦ rw other refl ]
-tx_as (BeginOn pin made level read_only) n label (Some m) = refl
 tx_as w n label (Some m) = refl
 tx_as w n label None = refl
-
-pin_as : (w : Work) (n : ℕ) (label : List ℕ) (earlier : Option ℕ) → labelled (pin_label_made w) n label earlier ≡ with_last (pins_as label w) n earlier
-unfolding with_last
-pin_as (Pin made) n label None = elim (cases_Bool (bytes_eq made label)) [ inl same ↦ rw same refl | inr other ↦ rw other refl ]
-pin_as (Pin made) n label (Some m) = refl
-pin_as w n label (Some m) = refl
-pin_as w n label None = refl
 
 -- What a label of rows has after call n has entered with this work.
 pub labelled_pushed : (works : List Work) (w : Work) (n : ℕ) (label : List ℕ) → n ≡ length works → labelled (label_made w) n label (position (hands_out_as label) works) ≡ position (hands_out_as label) (works ++ w ∷ [])
@@ -97,10 +88,3 @@ tx_labelled_pushed works w n label next =
     ap (λ k. labelled (tx_label_made w) k label (position (begins_as label) works)) next
     ∙ tx_as w (length works) label (position (begins_as label) works)
     ∙ sym (position_pushed (begins_as label) works w)
-
--- What a label of a pin has after call n has entered with this work.
-pub pin_labelled_pushed : (works : List Work) (w : Work) (n : ℕ) (label : List ℕ) → n ≡ length works → labelled (pin_label_made w) n label (position (pins_as label) works) ≡ position (pins_as label) (works ++ w ∷ [])
-pin_labelled_pushed works w n label next =
-    ap (λ k. labelled (pin_label_made w) k label (position (pins_as label) works)) next
-    ∙ pin_as w (length works) label (position (pins_as label) works)
-    ∙ sym (position_pushed (pins_as label) works w)

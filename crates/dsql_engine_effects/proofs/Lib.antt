@@ -10,7 +10,5 @@ pub mod FirstEnds
 pub mod MadeKnown
 pub mod MadeOnce
 pub mod OnceKept
-pub mod PinEnders
-pub mod PinsMade
 pub mod RowEnders
 pub mod TxEnders

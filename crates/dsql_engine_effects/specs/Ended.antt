@@ -30,9 +30,8 @@ numbered works = min (length works) most_counted
 
 -- Is true if the scope is a transaction.
 abbrev pub is_inside : Scope → Bool
+is_inside scopes.Db = false
 is_inside (scopes.Held k) = true
-is_inside (scopes.Within pin k) = true
-is_inside _ = false
 
 abbrev pub works_inside : Work → Bool
 works_inside work = is_inside (scope work)

@@ -66,9 +66,8 @@ HearsBegin n call txs = Unit {0}
 
 -- Is true if rows of a call in this scope come too late, given these transactions.
 abbrev pub are_late : Numbered Tx → Scope → Bool
+are_late txs scopes.Db = false
 are_late txs (scopes.Held k) = is_some (end_of (thing_of k txs))
-are_late txs (scopes.Within pin k) = is_some (end_of (thing_of k txs))
-are_late txs _ = false
 
 -- Returns the rows together with those of call n, if this answer is their cursor. `late` says whether they come
 -- too late.

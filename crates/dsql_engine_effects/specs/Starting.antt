@@ -9,12 +9,10 @@ use Rattle.dsql_history.specs.tx.declared.tx.Tx.{Tx}
 use Rattle.dsql_history.specs.works.Calls.{accepted}
 use Rattle.dsql_history.specs.declared.reply.Reply.{Reply}
 use Rattle.dsql_history.specs.declared.reply.Reply.TheVariants.{Absent}
-use Rattle.dsql_history.specs.pin.declared.pin.Pin.{Pin}
 use Rattle.dsql_history.specs.declared.work.Work.{Work}
-use Rattle.dsql_history.specs.declared.work.Work.TheVariants as works_of
-use Rattle.dsql_history.specs.Readers.Calls.{done_with, unpinned_with}
+use Rattle.dsql_history.specs.declared.work.Work.TheVariants.{Begin}
+use Rattle.dsql_history.specs.Readers.Calls.{done_with}
 use Rattle.dsql_history.specs.Readers.Decisions.{told_of}
-use Rattle.dsql_history.specs.Readers.Pins.{end_of_pin}
 use Rattle.dsql_history.specs.Readers.Transactions.{end_of}
 use Rattle.dsql_engine_calls.specs.declared.call.CallStart.{CallStart}
 use Rattle.dsql_engine_calls.specs.declared.call.Ending.{Ending}
@@ -26,7 +24,7 @@ pub record IsChecked (named_ok : Bool) (text : List ℕ) (args : List Named) (it
   pub params : it.params ≡ accepted (first_fault named_ok args) args
   pub refused : it.refused ≡ told_of (first_fault named_ok args)
 
--- Holds if this is kept of a call that runs no text, makes no label and closes no pin.
+-- Holds if this is kept of a call that runs no text and begins no transaction.
 pub record StartsOver (work : Work) (closes : Option ℕ) (ends : Option Ending) (decided : Option Reply)
     (it : CallStart) : Type 0 where
   pub work_is : it.work ≡ work
@@ -35,55 +33,20 @@ pub record StartsOver (work : Work) (closes : Option ℕ) (ends : Option Ending)
   pub decided_so : it.decided ≡ decided
   pub label : it.label ≡ None
   pub tx_label : it.tx_label ≡ None
-  pub pin_label : it.pin_label ≡ None
   pub closes_so : it.closes ≡ closes
   pub ends_so : it.ends ≡ ends
-  pub unpins : it.unpins ≡ None
 
--- Holds if this is kept of a call that makes no label and closes this pin.
-pub record StartsUnpin (pin : ℕ) (decided : Option Reply) (it : CallStart) : Type 0 where
-  pub work_is : it.work ≡ works_of.Unpin pin
-  pub text : it.text ≡ []
-  pub params : it.params ≡ []
-  pub decided_so : it.decided ≡ decided
-  pub label : it.label ≡ None
-  pub tx_label : it.tx_label ≡ None
-  pub pin_label : it.pin_label ≡ None
-  pub closes : it.closes ≡ None
-  pub ends : it.ends ≡ None
-  pub unpins_so : it.unpins ≡ Some pin
-
--- Holds if this is kept of a call that pins a connection under this label.
-pub record StartsPin (own : List ℕ) (decided : Option Reply) (it : CallStart) : Type 0 where
-  pub work_is : it.work ≡ works_of.Pin own
-  pub text : it.text ≡ []
-  pub params : it.params ≡ []
-  pub decided_so : it.decided ≡ decided
-  pub label : it.label ≡ None
-  pub tx_label : it.tx_label ≡ None
-  pub pin_label : option_map string_bytes it.pin_label ≡ Some own
-  pub closes : it.closes ≡ None
-  pub ends : it.ends ≡ None
-  pub unpins : it.unpins ≡ None
-
--- Returns the work of a call that begins a transaction on this pin, or on a connection of its own if no pin is given.
-abbrev pub begin_on : Option ℕ → List ℕ → Level → Bool → Work
-begin_on None own level read_only = works_of.Begin own level read_only
-begin_on (Some pin) own level read_only = works_of.BeginOn pin own level read_only
-
--- Holds if this is kept of a call that begins a transaction there under this label.
-pub record StartsBegin (pin : Option ℕ) (own : List ℕ) (level : Level) (read_only : Bool) (decided : Option Reply)
+-- Holds if this is kept of a call that begins a transaction under this label.
+pub record StartsBegin (own : List ℕ) (level : Level) (read_only : Bool) (decided : Option Reply)
     (it : CallStart) : Type 0 where
-  pub work_is : it.work ≡ begin_on pin own level read_only
+  pub work_is : it.work ≡ Begin own level read_only
   pub text : it.text ≡ []
   pub params : it.params ≡ []
   pub decided_so : it.decided ≡ decided
   pub label : it.label ≡ None
   pub tx_label : option_map string_bytes it.tx_label ≡ Some own
-  pub pin_label : it.pin_label ≡ None
   pub closes : it.closes ≡ None
   pub ends : it.ends ≡ None
-  pub unpins : it.unpins ≡ None
 
 -- Holds if the transaction was begun, if one is named.
 abbrev pub IsBegun : Option ℕ → Numbered Tx → Type 0
@@ -95,13 +58,3 @@ IsBegun (Some k) txs = was_made k txs ≡ true
 abbrev pub told_on : List ℕ → Option ℕ → Numbered Tx → Option Reply
 told_on label None txs = Some (Absent label)
 told_on label (Some k) txs = done_with (end_of (thing_of k txs))
-
--- Holds if the pin was made, if one is named.
-abbrev pub IsPinned : Option ℕ → Numbered Pin → Type 0
-IsPinned None pins = Unit {0}
-IsPinned (Some p) pins = was_made p pins ≡ true
-
--- Returns the reply that a call on the label's pin gets at once, given these pins: there is none, or it has ended.
-abbrev pub told_on_pin : List ℕ → Option ℕ → Numbered Pin → Option Reply
-told_on_pin label None pins = Some (Absent label)
-told_on_pin label (Some p) pins = unpinned_with (end_of_pin (thing_of p pins))

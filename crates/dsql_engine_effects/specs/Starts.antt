@@ -10,11 +10,10 @@ use Rattle.dsql_history.specs.declared.event.Event.{Event}
 use Rattle.dsql_history.specs.declared.event.Op.{Op}
 use Rattle.dsql_history.specs.declared.work.Work.{Work}
 use Rattle.dsql_history.specs.declared.work.Task.TheVariants.{HandOut}
-use Rattle.dsql_history.specs.declared.work.Work.TheVariants.{Statement, Begin, BeginOn, Pin}
+use Rattle.dsql_history.specs.declared.work.Work.TheVariants.{Statement, Begin}
 use Rattle.dsql_history.specs.Readers.Course.{caps}
 use Rattle.dsql_history.specs.Readers.Calls.{params_at_entry, told_at_entry}
 use Rattle.dsql_history.specs.Readers.Decisions.{statement}
-use Rattle.dsql_history.specs.Readers.Pins.{pins, pin_entered}
 use Rattle.dsql_history.specs.Readers.Transactions.{transactions, tx_entered}
 use Rattle.dsql_history.specs.Readers.Unfinished.{is_unfinished}
 use Rattle.dsql_history.specs.Readers.Works.{tx_maker, works, work_of}
@@ -23,7 +22,6 @@ use Rattle.dsql_engine_calls.specs.declared.call.CallStart.{CallStart}
 use Rattle.dsql_engine_calls.specs.declared.call.Ending.{Ending}
 use Rattle.dsql_engine_effects.specs.Ended.{rows_with_end, txs_with_end}
 use Rattle.dsql_engine_effects.specs.Heard.{ended_for}
-use Rattle.dsql_engine_effects.specs.Pins.{unpinned}
 
 -- Returns the call that a label has after call n has entered. The first argument is the label that call n
 -- makes, if it makes one. The last one is the call that the label had before.
@@ -49,13 +47,7 @@ label_made _ = None
 -- Returns the label of the transaction that a call begins, if it begins one.
 abbrev pub tx_label_made : Work → Option (List ℕ)
 tx_label_made (Begin label level read_only) = Some label
-tx_label_made (BeginOn pin label level read_only) = Some label
 tx_label_made _ = None
-
--- Returns the label of the pin that a call makes, if it makes one.
-abbrev pub pin_label_made : Work → Option (List ℕ)
-pin_label_made (Pin label) = Some label
-pin_label_made _ = None
 
 -- Returns the calls after call n has closed rows, if it closed any.
 abbrev pub closed_by : Option ℕ → ℕ → Made → List CallRow → List CallRow
@@ -76,9 +68,7 @@ pub record Starts (past : List Event) (op : Op) (it : CallStart) : Type 0 where
   pub decided : it.decided ≡ told_at_entry past op
   pub label : option_map string_bytes it.label ≡ label_made (work_of (works past) op)
   pub tx_label : option_map string_bytes it.tx_label ≡ tx_label_made (work_of (works past) op)
-  pub pin_label : option_map string_bytes it.pin_label ≡ pin_label_made (work_of (works past) op)
   pub made : AreMade it.closes (handed_out past)
   pub rows : rows_with_end it.ends (works past) (closed_rows it.closes (handed_out past))
       ≡ rows_entered past op (handed_out past)
   pub txs : txs_with_end it.ends (transactions past) ≡ tx_entered past op (transactions past)
-  pub pins : unpinned it.unpins (pins past) ≡ pin_entered past op (pins past)

@@ -1,12 +1,10 @@
-//! What the end of a transaction, and the end of the run, do to the calls, the rows, the transactions and the pins.
+//! What the end of a transaction, and the end of the run, do to the calls, the rows and the transactions.
 ghost use Rattle.std.specs.Prelude.{◌≡◌, ◌&&◌, vec_len, vec_capacity};
 ghost use Rattle.dsql_history.specs.numbered.Numbered.{thing_of, all_changed, changed};
 ghost use Rattle.dsql_history.specs.rows.declared.end.RowsEnd.TheVariants as rows_ends;
 ghost use Rattle.dsql_history.specs.rows.OpenRows.{ended_by, rows_of};
 ghost use Rattle.dsql_history.specs.tx.declared.end.TxEnd.TheVariants as tx_ends;
 ghost use Rattle.dsql_history.specs.tx.Transactions as transactions;
-ghost use Rattle.dsql_history.specs.pin.declared.end.PinEnd.TheVariants as pin_ends;
-ghost use Rattle.dsql_history.specs.pin.Pinned as pinned;
 ghost use Rattle.dsql_history.specs.Readers.HandedOut.{live};
 ghost use Rattle.dsql_engine_calls.specs.Calls.{row_at};
 ghost use Rattle.dsql_history.specs.Readers.Works.{hands_out_in};
@@ -17,7 +15,6 @@ use crate::rows::note_end;
 use dsql_engine_calls::row::{hands_out_in, scope_of};
 use dsql_engine_calls::{CallRow, Ending};
 use dsql_history::{RowsEnd, RowsTable, Scope, TxEnd, Txs};
-use dsql_pin::Pins;
 
 /// Ends a transaction and its rows, if one is named, and records that this call ended them.
 pub fn end_tx(
@@ -109,23 +106,20 @@ pub fn numbered(calls: &Vec<CallRow>) -> u32
     u32::try_from(calls.len()).unwrap_or(u32::MAX)
 }
 
-/// Ends the transactions with their rows, all other rows and all pins, as the run ends.
-pub fn end_run(calls: &Vec<CallRow>, rows: &mut RowsTable, txs: &mut Txs, pins: &mut Pins)
+/// Ends the transactions with their rows, and all other rows, as the run ends.
+pub fn end_run(calls: &Vec<CallRow>, rows: &mut RowsTable, txs: &mut Txs)
     ensures rows { rows.new.rows ≡ all_changed (ended_by rows_ends.EndOfRun)
         (rows_ended works_inside 0 (works_of calls.now.items)
         (numbered (works_of calls.now.items)) rows.old.rows) }
     ensures spare { rows.new.spare ≡ rows.old.spare }
     ensures txs { txs.new.txs ≡ all_changed (transactions.ended_by tx_ends.EndOfRun) txs.old.txs }
     ensures tx_spare { txs.new.spare ≡ txs.old.spare }
-    ensures pins { pins.new.pins ≡ all_changed (pinned.ended_by pin_ends.EndOfRun) pins.old.pins }
-    ensures pin_spare { pins.new.spare ≡ pins.old.spare }
 {
     for query in 0..numbered(calls) {
         end_inside(calls, rows, query);
     }
     rows.close_all();
     txs.end_all();
-    pins.close_all();
 }
 
 /// Ends the rows of a query, if the query has handed them out in a transaction.
@@ -133,7 +127,7 @@ fn end_inside(calls: &Vec<CallRow>, rows: &mut RowsTable, query: u32)
     ensures rows { rows.new.rows ≡ ended_if (works_inside (row_at calls.now.items query).work) query rows.old.rows }
     ensures spare { rows.new.spare ≡ rows.old.spare }
 {
-    if let Scope::Held(_) | Scope::Within { .. } = scope_of(calls, query) {
+    if let Scope::Held(_) = scope_of(calls, query) {
         end_made(rows, query);
     }
 }

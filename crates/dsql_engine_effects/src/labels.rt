@@ -1,4 +1,4 @@
-//! The labels of rows, of transactions and of pins, each with its call.
+//! The labels of rows and of transactions, each with its call.
 ghost use Rattle.std.specs.Prelude.{◌≡◌, ◌+◌, ◌<◌, ◌≤◌, ℕ, Some, List, string_bytes, option_map};
 ghost use Rattle.dsql_engine_effects.specs.Starts.{labelled};
 ghost use Rattle.indexmap.specs.IndexMap.{get_by_text, spare};

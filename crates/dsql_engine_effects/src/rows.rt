@@ -71,8 +71,8 @@ fn are_late(txs: &Txs, it: Scope) -> bool
     ensures { result ≡ are_late txs.now.txs it }
 {
     match it {
-        Scope::Held(tx) | Scope::Within { tx, .. } => txs.was_made(tx) && txs.admit(tx).is_err(),
-        Scope::Db | Scope::Pinned(_) => false,
+        Scope::Db => false,
+        Scope::Held(tx) => txs.was_made(tx) && txs.admit(tx).is_err(),
     }
 }
 

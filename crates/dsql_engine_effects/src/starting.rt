@@ -1,21 +1,21 @@
 //! What is kept of a call that enters, as far as that doesn't depend on the history.
 ghost use Rattle.std.specs.Option.{option_copied};
-ghost use Rattle.std.specs.Prelude.{◌≡◌, true, Some, None, Err, IfOk, OnErr, cond};
+ghost use Rattle.std.specs.Prelude.{◌≡◌, true, Some, None, Err, IfOk, OnErr, option_map};
 ghost use Rattle.dsql_history.specs.course.Made.{or_else};
 ghost use Rattle.dsql_history.specs.numbered.Numbered.{thing_of, was_made};
-ghost use Rattle.dsql_history.specs.Readers.Calls.{done_with, unpinned_with};
-ghost use Rattle.dsql_history.specs.Readers.Pins.{end_of_pin};
+ghost use Rattle.dsql_history.specs.Readers.Calls.{done_with};
 ghost use Rattle.dsql_history.specs.Readers.Transactions.{end_of};
+ghost use Rattle.dsql_history.specs.declared.reply.Reply.TheVariants.{DbClosed};
+ghost use Rattle.dsql_history.specs.declared.work.Work.TheVariants.{End};
 ghost use Rattle.dsql_history.specs.Readers.Decisions.{fault_reply, options_refused, refused_with, told_row};
-ghost use Rattle.dsql_engine_effects.specs.Starting.{IsBegun, IsChecked, IsPinned, StartsBegin, StartsOver, StartsPin, StartsUnpin, begin_on, told_on, told_on_pin};
+ghost use Rattle.dsql_engine_effects.specs.Starting.{IsBegun, IsChecked, StartsBegin, StartsOver, told_on};
 
 use crate::deciding::row_fault;
 use dsql_engine_calls::{CallStart, Ending, NoRoom};
 use dsql_history::{
-    ArgFault, Args, Items, Label, Level, Params, Reply, RowFault, RowsEnd, Txs, Txt, Work,
+    ArgFault, Args, DbEnd, Items, Label, Level, Params, Reply, RowFault, RowsEnd, Txs, Txt, Work,
     check_args,
 };
-use dsql_pin::Pins;
 use std::alloc::Global;
 
 /// A text with its arguments, and the reply if one of them is refused.
@@ -40,10 +40,8 @@ pub fn over_text(
     ensures decided { result.decided ≡ or_else told checked.refused }
     ensures label { result.label ≡ label }
     ensures tx_label { result.tx_label ≡ None }
-    ensures pin_label { result.pin_label ≡ None }
     ensures closes { result.closes ≡ None }
     ensures ends { result.ends ≡ None }
-    ensures unpins { result.unpins ≡ None }
 {
     let Checked {
         text,
@@ -60,28 +58,8 @@ pub fn over_text(
         params,
         label,
         tx_label: None,
-        pin_label: None,
         closes: None,
         ends: None,
-        unpins: None,
-        decided,
-    }
-}
-
-/// Returns what is kept of a call that runs no text, makes no label and ends nothing as it enters.
-fn of_work(alloc: Global, work: Work, decided: Option<Reply>) -> CallStart
-    ensures { StartsOver work None None decided result }
-{
-    CallStart {
-        work,
-        text: Txt::new(String::new(alloc)),
-        params: Items::none(alloc),
-        label: None,
-        tx_label: None,
-        pin_label: None,
-        closes: None,
-        ends: None,
-        unpins: None,
         decided,
     }
 }
@@ -95,108 +73,75 @@ pub fn over_rows(
 ) -> CallStart
     ensures { StartsOver work closes None decided result }
 {
-    let mut start = of_work(alloc, work, decided);
-    start.closes = closes;
-    start
+    CallStart {
+        work,
+        text: Txt::new(String::new(alloc)),
+        params: Items::none(alloc),
+        label: None,
+        tx_label: None,
+        closes,
+        ends: None,
+        decided,
+    }
 }
 
-/// Returns what is kept of a call that is to end a transaction with this work. `ends` says how it ends it, if it does.
-/// It takes no memory.
-pub fn over_end(
-    alloc: Global,
-    work: Work,
-    ends: Option<Ending>,
-    decided: Option<Reply>,
-) -> CallStart
-    ensures { StartsOver work None ends decided result }
+/// Returns what is kept of a call that is to end a transaction. `ends` says how it ends it, if it does. It
+/// takes no memory.
+pub fn over_end(alloc: Global, tx: u32, ends: Option<Ending>, decided: Option<Reply>) -> CallStart
+    ensures { StartsOver (End tx) None ends decided result }
 {
-    let mut start = of_work(alloc, work, decided);
-    start.ends = ends;
-    start
+    CallStart {
+        work: Work::End(tx),
+        text: Txt::new(String::new(alloc)),
+        params: Items::none(alloc),
+        label: None,
+        tx_label: None,
+        closes: None,
+        ends,
+        decided,
+    }
 }
 
-/// Returns what is kept of a call that closes a pin. It takes no memory.
-pub fn over_unpin(alloc: Global, pin: u32, decided: Option<Reply>) -> CallStart
-    ensures { StartsUnpin pin decided result }
-{
-    let mut start = of_work(alloc, Work::Unpin(pin), decided);
-    start.unpins = Some(pin);
-    start
-}
-
-/// Returns what is kept of a call that pins a connection.
-pub fn over_pin(alloc: Global, label: &Txt, decided: Option<Reply>) -> Result<CallStart, NoRoom>
-    ensures { IfOk result (λ it. StartsPin label.now decided it) }
-{
-    let pin_label = Some(String::from_str(alloc, label.as_str())?);
-    let mut start = of_work(alloc, Work::Pin(Label::of(label)), decided);
-    start.pin_label = pin_label;
-    Ok(start)
-}
-
-/// Returns what is kept of a call that begins a transaction on this pin, or on a connection of its own if no pin is
-/// given.
+/// Returns what is kept of a call that begins a transaction.
 pub fn over_begin(
     alloc: Global,
-    pin: Option<u32>,
     label: &Txt,
     level: Level,
     read_only: bool,
     decided: Option<Reply>,
 ) -> Result<CallStart, NoRoom>
-    ensures { IfOk result (λ it. StartsBegin pin label.now level read_only decided it) }
+    ensures { IfOk result (λ it. StartsBegin label.now level read_only decided it) }
 {
     let tx_label = Some(String::from_str(alloc, label.as_str())?);
-    let work = begin_on(pin, Label::of(label), level, read_only);
-    let mut start = of_work(alloc, work, decided);
-    start.tx_label = tx_label;
-    Ok(start)
-}
-
-/// Returns the work of a call that begins a transaction on this pin, or on a connection of its own if no pin is given.
-fn begin_on(pin: Option<u32>, label: Label, level: Level, read_only: bool) -> Work
-    ensures { result ≡ begin_on pin label level read_only }
-{
-    match pin {
-        Some(pin) => Work::BeginOn {
-            pin,
-            label,
+    Ok(CallStart {
+        work: Work::Begin {
+            label: Label::of(label),
             level,
             read_only,
         },
-        None => Work::Begin {
-            label,
-            level,
-            read_only,
-        },
-    }
+        text: Txt::new(String::new(alloc)),
+        params: Items::none(alloc),
+        label: None,
+        tx_label,
+        closes: None,
+        ends: None,
+        decided,
+    })
 }
 
-/// Returns the reply that a begin gets at once, if any. `told` is the reply that it gets from what it is made on, if
-/// any. `begin_options` says whether the driver takes options.
+/// Returns the reply that a begin gets at once, if any. `closed_by` is what closed the database, if anything
+/// did. `begin_options` says whether the driver takes options.
 pub fn begin_told(
-    told: Option<Reply>,
+    closed_by: Option<DbEnd>,
     begin_options: bool,
     level: Level,
     read_only: bool,
 ) -> Option<Reply>
-    ensures { result ≡ or_else told (options_refused begin_options level read_only) }
+    ensures { result ≡ or_else (option_map DbClosed closed_by) (options_refused begin_options level read_only) }
 {
-    match told {
-        Some(reply) => Some(reply),
+    match closed_by {
+        Some(end) => Some(Reply::DbClosed(end)),
         None => options_refused(begin_options, level, read_only),
-    }
-}
-
-/// Returns the reply that a ping on a pin gets at once, if any. `told` is the reply that it gets from the pin, if any.
-/// `pinger` says whether the driver can ping.
-pub fn ping_told(told: Option<Reply>, pinger: bool) -> Option<Reply>
-    ensures { result ≡ or_else told (cond pinger None (Some Reply.Ok)) }
-{
-    match told {
-        Some(reply) => Some(reply),
-        None if pinger => None,
-        None => Some(Reply::Ok),
     }
 }
 
@@ -235,29 +180,6 @@ fn told_done(txs: &Txs, tx: u32) -> Option<Reply>
     match txs.admit(tx) {
         Ok(()) => None,
         Err(done) => Some(Reply::TxDone(done.by)),
-    }
-}
-
-/// Returns the reply that a call on the label's pin gets at once, if any: there is none, or it has ended.
-pub fn told_on_pin(pins: &Pins, pin: Option<u32>, label: &Txt) -> Result<Option<Reply>, NoRoom>
-    requires { IsPinned pin pins.now.pins }
-    ensures told { IfOk result (λ reply. reply ≡ told_on_pin label.now pin pins.now.pins) }
-    ensures full { OnErr result (pin ≡ None) }
-{
-    match pin {
-        None => Ok(Some(Reply::Absent(label.copy()?))),
-        Some(pin) => Ok(told_unpinned(pins, pin)),
-    }
-}
-
-/// Returns the reply that a call gets on a pin that was made, if the pin has ended.
-fn told_unpinned(pins: &Pins, pin: u32) -> Option<Reply>
-    requires { was_made pin pins.now.pins ≡ true }
-    ensures { result ≡ unpinned_with (end_of_pin (thing_of pin pins.now.pins)) }
-{
-    match pins.admit(pin) {
-        Ok(()) => None,
-        Err(done) => Some(Reply::ConnDone(done.by)),
     }
 }
 

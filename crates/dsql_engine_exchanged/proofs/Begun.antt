@@ -1,4 +1,4 @@
--- What was heard in the line of a begin or of a pin decides what it sends next.
+-- What was heard in the line of a begin decides what it sends next.
 use Rattle.std.proofs.Common.{◌≡◌, ℕ, ◌==◌, Bool, true, false, ◌||◌, cond, List, [], ◌∷◌, refl, sym, ap, ◌∙◌, Option, None, Some}
 use Rattle.std.specs.Option.{option_map}
 use Rattle.dsql_history.specs.driver.declared.caps.Caps.{Caps}
@@ -14,14 +14,14 @@ use Rattle.dsql_history.specs.works.Exchanges.{exchanges, step_of, with_exchange
 use Rattle.dsql_history.specs.works.Line.{Asked, test_of}
 use Rattle.dsql_history.specs.Readers.Lines.{is_about, line_among}
 use Rattle.dsql_history.specs.Rules.Line.{is_due}
-use Rattle.dsql_history.specs.Rules.Sent.{begin_line, pin_line, untested}
+use Rattle.dsql_history.specs.Rules.Sent.{begin_line}
 use Rattle.dsql_engine_exchanged.specs.declared.bare.BareCall.{BareCall}
 use Rattle.dsql_engine_exchanged.specs.declared.bare.BareCall.TheVariants as bare
 use Rattle.dsql_engine_exchanged.specs.declared.beginning.Beginning.{Beginning}
-use Rattle.dsql_engine_exchanged.specs.declared.beginning.Beginning.TheVariants.{Fresh, Ready, Begun, Failed, Over}
+use Rattle.dsql_engine_exchanged.specs.declared.beginning.Beginning.TheVariants.{Ready, Begun, Failed, Over}
 use Rattle.dsql_engine_exchanged.specs.Filled.{filled}
-use Rattle.dsql_engine_exchanged.specs.Beginning.{beginning_after, beginning_in, begun_if, bare_begin, bare_begin_on_pin, bare_pin}
-use Rattle.dsql_engine_exchanged.specs.Turns.{BeginsInTurn, PinsInTurn}
+use Rattle.dsql_engine_exchanged.specs.Beginning.{beginning_after, beginning_in, begun_if, bare_begin}
+use Rattle.dsql_engine_exchanged.specs.Turns.{BeginsInTurn}
 
 -- The filled test is the test, if the driver has one.
 pub test_filled : (can : Caps) (asked : Asked) → option_map (filled asked) (cond can.validator (Some bare.Valid) None) ≡ test_of can
@@ -100,40 +100,3 @@ begin_heard n e heard old new step none is =
     by true about h = refl
     by false true h = absurd cc
     by false false h = refl
-
--- On a pin.
-
-on_pin : (can : Caps) (level : Level) (read_only : Bool) (it : Beginning) → bare_begin_on_pin level read_only it ≡ bare_begin (untested can) false level read_only it
-on_pin can level read_only Fresh = refl
-on_pin can level read_only Failed = refl
-on_pin can level read_only _ = refl
-
-pub begin_on_pin_so : (level : Level) (read_only : Bool) (it : Beginning) (sent : Option BareCall) → sent ≡ bare_begin_on_pin level read_only it
-    → (can : Caps) (asked : Asked) (line : List Entry) → beginning_in line ≡ it → option_map (filled asked) sent ≡ begin_line (untested can) false (Begin level read_only) line
-begin_on_pin_so level read_only it sent is can asked line heard = begin_so (untested can) false level read_only it sent (is ∙ on_pin can level read_only it) asked line heard
-
-pin_filled : (reset_due : Bool) (asked : Asked) (line : List Entry) → option_map (filled asked) (bare_pin reset_due (beginning_in line)) ≡ pin_line reset_due line
-pin_filled true asked [] = refl
-pin_filled false asked [] = refl
-pin_filled reset_due asked (e ∷ earlier) = by (ends_line e) (is_begin e.call) (is_done e.answer)
-  where
-    by : (over begin done : Bool) → option_map (filled asked) (bare_pin reset_due (cond over Over (cond begin (cond done Begun Failed) Ready))) ≡ None
-    by true begin done = refl
-    by false false done = refl
-    by false true true = refl
-    by false true false = refl
-
-pub pin_so : (reset_due : Bool) (it : Beginning) (sent : Option BareCall) → sent ≡ bare_pin reset_due it
-    → (asked : Asked) (line : List Entry) → beginning_in line ≡ it → option_map (filled asked) sent ≡ pin_line reset_due line
-pin_so reset_due it sent is asked line heard = ap (option_map (filled asked)) (is ∙ ap (bare_pin reset_due) (sym heard)) ∙ pin_filled reset_due asked line
-
-resets_only : (reset_due : Bool) (line : List Entry) (call : DriverCall) → is_due (pin_line reset_due line) call ≡ true → step_of call ≡ None
-resets_only true [] call sent = resets call sent
-resets_only false [] call sent = absurd cc
-resets_only reset_due (e ∷ earlier) call sent = absurd cc
-
--- A call that pins a connection exchanges no step of a course.
-pub nothing_pinned : (line : List Entry) → PinsInTurn line → exchanges line ≡ []
-nothing_pinned [] so = refl
-nothing_pinned (e ∷ earlier) so =
-    ap (λ step. with_exchange step e.answer (exchanges earlier)) (resets_only so.0.0 earlier e.call so.0.1) ∙ nothing_pinned earlier so.1

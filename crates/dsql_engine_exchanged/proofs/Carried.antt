@@ -22,10 +22,8 @@ use Rattle.dsql_engine_exchanged.specs.Filled.{Carries}
 use Rattle.dsql_engine_exchanged.proofs.DueCarried.{test_carries, step_carries, over_carries}
 use Rattle.dsql_history.specs.declared.event.Event.{Event}
 use Rattle.dsql_history.specs.Readers.Course.{caps}
-use Rattle.dsql_history.specs.journal.Readers.{of_transaction}
-use Rattle.dsql_history.specs.Rules.Ending.{closing_call, ended_by_call, end_after}
-use Rattle.dsql_history.specs.Rules.Pinned.{testing}
-use Rattle.dsql_history.specs.Rules.Sent.{begin_line, inner_after, pin_line, untested}
+use Rattle.dsql_history.specs.Rules.Ending.{ended_by_call, end_after}
+use Rattle.dsql_history.specs.Rules.Sent.{begin_line, inner_after, untested}
 
 body_carries : (can : Caps) (bad : Bool) (asked : Asked) (wish : Wish) (made : List Exchange) (rows : Option ℕ) → IfSome (body_with can bad asked wish made rows) (Carries asked)
 body_carries can bad asked wish made None = step_carries can asked (comes_next (course_of asked.aim) can (length asked.params) (found bad) made)
@@ -60,23 +58,3 @@ end_carries before bad end asked heard = by (list_any (λ e. is_ending e.call) h
     by true true = tt
     by true false = test_carries (caps before) asked
     by false over = end_call_carries asked end
-
--- What is sent for a pin carries whatever is asked, because it has no statement.
-pub pin_carries : (reset_due : Bool) (asked : Asked) (line : List Entry) → IfSome (pin_line reset_due line) (Carries asked)
-pin_carries true asked [] = refl
-pin_carries false asked [] = tt
-pin_carries reset_due asked (e ∷ earlier) = tt
-
-pub closing_carries : (tx : ℕ) (end : TxEnd) (asked : Asked) (heard : List Entry) → IfSome (closing_call tx end heard) (Carries asked)
-closing_carries tx end asked heard = by (list_any (λ e. is_ending e.call) (of_transaction tx heard))
-  where
-    by : (ended : Bool) → IfSome (cond ended None (Some (ended_by_call end))) (Carries asked)
-    by true = tt
-    by false = end_call_carries asked end
-
-pub testing_carries : (before : List Event) (bad : Bool) (asked : Asked) (heard : List Entry) → IfSome (testing before bad heard) (Carries asked)
-testing_carries before bad asked heard = by (bad || list_any (λ e. is_valid e.call) heard)
-  where
-    by : (over : Bool) → IfSome (cond over None (test_of (caps before))) (Carries asked)
-    by true = tt
-    by false = test_carries (caps before) asked

@@ -1,25 +1,23 @@
--- What was heard of a transaction's end decides what is sent next to end it. What was heard of a test decides whether
--- a pin's connection is tested.
-use Rattle.std.proofs.Common.{◌≡◌, ℕ, ◌==◌, Bool, true, false, ◌||◌, cond, List, [], ◌∷◌, refl, sym, ap, ◌∙◌, Option, None, Some}
+-- What was heard of a transaction's end decides what is sent next to end it.
+use Rattle.std.proofs.Common.{◌≡◌, Bool, true, false, ◌||◌, cond, List, [], ◌∷◌, refl, sym, ap, ◌∙◌, Option, None, Some}
 use Rattle.std.specs.List.{list_any}
 use Rattle.std.specs.Option.{option_map}
 use Rattle.dsql_history.specs.driver.declared.caps.Caps.{Caps}
 use Rattle.dsql_history.specs.driver.declared.call.DriverCall.{DriverCall}
 use Rattle.dsql_history.specs.driver.Kinds.{is_bad, is_ending, is_valid}
 use Rattle.dsql_history.specs.journal.declared.entry.Entry.{Entry}
-use Rattle.dsql_history.specs.journal.Readers.{went_bad, of_transaction}
+use Rattle.dsql_history.specs.journal.Readers.{went_bad}
 use Rattle.dsql_history.specs.tx.declared.end.TxEnd.{TxEnd}
 use Rattle.dsql_history.specs.tx.declared.end.TxEnd.TheVariants as ends
 use Rattle.dsql_history.specs.works.Line.{Asked, test_of}
 use Rattle.dsql_history.specs.declared.event.Event.{Event}
 use Rattle.dsql_history.specs.Readers.Course.{caps}
-use Rattle.dsql_history.specs.Rules.Ending.{closing_call, ended_by_call, end_after}
-use Rattle.dsql_history.specs.Rules.Pinned.{testing}
+use Rattle.dsql_history.specs.Rules.Ending.{ended_by_call, end_after}
 use Rattle.dsql_engine_exchanged.specs.declared.bare.BareCall.{BareCall}
 use Rattle.dsql_engine_exchanged.specs.declared.bare.BareCall.TheVariants as bare
 use Rattle.dsql_engine_exchanged.specs.declared.ending.Ending.{Ending}
 use Rattle.dsql_engine_exchanged.specs.Filled.{filled}
-use Rattle.dsql_engine_exchanged.specs.Ending.{ended_if, ending_in, then_ended, bare_end, bare_ending, bare_test}
+use Rattle.dsql_engine_exchanged.specs.Ending.{ending_in, bare_end, bare_ending}
 use Rattle.dsql_engine_exchanged.proofs.Begun.{test_filled}
 
 pub heard_ended : (heard : List Entry) → (ending_in heard).ended ≡ list_any (λ e. is_ending e.call) heard
@@ -64,38 +62,3 @@ unfolding rest
 ending_so can end it sent is asked before heard same is_ended is_tested =
     ap (option_map (filled asked)) is
     ∙ (ending_filled can end asked it ∙ same_rest can (caps before) _ _ _ _ it.bad end same (sym is_ended ∙ heard_ended heard) (sym is_tested ∙ heard_tested heard))
-
--- On a pin.
-
--- An entry is recorded exactly if it was heard in the transaction.
-pub heard_in_transaction : (tx : ℕ) (e : Entry) (heard : List Entry) (old new : Ending) → new ≡ ended_if tx e old
-    → old ≡ ending_in (of_transaction tx heard) → new ≡ ending_in (of_transaction tx (e ∷ heard))
-heard_in_transaction tx e heard old new step is = step ∙ (ap (ended_if tx e) is ∙ by (e.tx == tx))
-  where
-    earlier : List Entry
-    earlier = of_transaction tx heard
-
-    by : (own : Bool) → cond own (then_ended e (ending_in earlier)) (ending_in earlier) ≡ ending_in (cond own (e ∷ earlier) earlier)
-    by true = refl
-    by false = refl
-
-pub closing_so : (end : TxEnd) (it : Ending) (sent : Option BareCall) → sent ≡ cond it.ended None (Some (bare_end end))
-    → (asked : Asked) (tx : ℕ) (heard : List Entry) → (ending_in (of_transaction tx heard)).ended ≡ it.ended → option_map (filled asked) sent ≡ closing_call tx end heard
-closing_so end it sent is asked tx heard is_ended =
-    ap (option_map (filled asked)) is ∙ (by it.ended ∙ ap (λ b. cond b None (Some (ended_by_call end))) (sym is_ended ∙ heard_ended (of_transaction tx heard)))
-  where
-    by : (ended : Bool) → option_map (filled asked) (cond ended None (Some (bare_end end))) ≡ cond ended None (Some (ended_by_call end))
-    by true = refl
-    by false = ap Some (end_filled asked end)
-
-pub testing_so : (can : Caps) (it : Ending) (sent : Option BareCall) → sent ≡ bare_test can it
-    → (asked : Asked) (before : List Event) (heard : List Entry) → caps before ≡ can → (ending_in heard).tested ≡ it.tested
-    → option_map (filled asked) sent ≡ testing before it.bad heard
-testing_so can it sent is asked before heard same is_tested =
-    ap (option_map (filled asked)) is
-    ∙ (by (it.bad || it.tested)
-    ∙ (ap (λ b. cond (it.bad || b) None (test_of can)) (sym is_tested ∙ heard_tested heard) ∙ ap (λ c. cond (it.bad || list_any (λ e. is_valid e.call) heard) None (test_of c)) (sym same)))
-  where
-    by : (over : Bool) → option_map (filled asked) (cond over None (cond can.validator (Some bare.Valid) None)) ≡ cond over None (test_of can)
-    by true = refl
-    by false = test_filled can asked

@@ -12,7 +12,6 @@ use Rattle.dsql_history.specs.course.Made.{Exchange, or_else, own_cursor, own_ha
 use Rattle.dsql_history.specs.journal.declared.entry.Entry.{Entry}
 use Rattle.dsql_history.specs.journal.Kinds.{is_number}
 use Rattle.dsql_history.specs.works.Exchanges.{exchanges, got_of, step_of, with_exchange}
-use Rattle.dsql_engine_exchanged.specs.Beginning.{beginning_in}
 use Rattle.dsql_engine_exchanged.specs.Exchanged.{exchanged_in, then_heard as then_exchanged}
 use Rattle.dsql_history.specs.Readers.Lines.{closes_cursor, closes_handle, has_cursor, has_handle, is_about, is_of, is_of_line, line_among}
 use Rattle.dsql_engine_exchanged.specs.declared.heard.HeardLine.{HeardLine}
@@ -188,7 +187,3 @@ line_heard n e heard old new step fresh is =
 pub heard_exchanged : (line : List Entry) → (heard_line line).heard ≡ exchanged_in line
 heard_exchanged [] = refl
 heard_exchanged (e ∷ earlier) = ap (then_exchanged e) (heard_exchanged earlier)
-
-pub heard_beginning : (line : List Entry) → (heard_line line).beginning ≡ beginning_in line
-heard_beginning [] = refl
-heard_beginning (e ∷ earlier) = refl

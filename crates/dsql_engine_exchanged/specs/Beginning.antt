@@ -1,4 +1,4 @@
--- What was heard in the line of a begin or of a pin, as far as the next driver call depends on it.
+-- What was heard in the line of a begin, as far as the next driver call depends on it.
 use Rattle.std.specs.Prelude.{ℕ, ◌==◌, Bool, cond, List, [], ◌∷◌, Option, Some, None}
 use Rattle.dsql_history.specs.driver.declared.call.Level.{Level}
 use Rattle.dsql_history.specs.driver.declared.caps.Caps.{Caps}
@@ -33,14 +33,3 @@ bare_begin can reset_due level read_only Fresh = cond reset_due (Some bare.Reset
 bare_begin can reset_due level read_only Ready = Some (bare.Begin level read_only)
 bare_begin can reset_due level read_only Failed = cond can.validator (Some bare.Valid) None
 bare_begin can reset_due level read_only _ = None
-
--- Returns what is sent next to begin a transaction with these options on a pin.
-abbrev pub bare_begin_on_pin : Level → Bool → Beginning → Option BareCall
-bare_begin_on_pin level read_only Fresh = Some (bare.Begin level read_only)
-bare_begin_on_pin level read_only Ready = Some (bare.Begin level read_only)
-bare_begin_on_pin level read_only _ = None
-
--- Returns what a call that pins a connection sends next.
-abbrev pub bare_pin : Bool → Beginning → Option BareCall
-bare_pin reset_due Fresh = cond reset_due (Some bare.Reset) None
-bare_pin reset_due _ = None

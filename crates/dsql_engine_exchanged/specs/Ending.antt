@@ -1,5 +1,5 @@
 -- What was heard of a transaction's end in its tenure, as far as the next driver call depends on it.
-use Rattle.std.specs.Prelude.{ℕ, ◌==◌, false, ◌||◌, cond, List, [], ◌∷◌, Option, Some, None}
+use Rattle.std.specs.Prelude.{false, ◌||◌, cond, List, [], ◌∷◌, Option, Some, None}
 use Rattle.dsql_history.specs.driver.declared.caps.Caps.{Caps}
 use Rattle.dsql_history.specs.driver.Kinds.{is_bad, is_ending, is_valid}
 use Rattle.dsql_history.specs.journal.declared.entry.Entry.{Entry}
@@ -27,19 +27,12 @@ abbrev pub ending_in : List Entry → Ending
 ending_in [] = unended
 ending_in (e ∷ earlier) = then_ended e (ending_in earlier)
 
--- Returns the record with one more answer, which counts if it was heard in this transaction.
-abbrev pub ended_if : ℕ → Entry → Ending → Ending
-ended_if tx e it = cond (e.tx == tx) (then_ended e it) it
-
 -- Returns the driver call that ends a transaction in this way.
 abbrev pub bare_end : TxEnd → BareCall
 bare_end ends.Commit = bare.Commit
 bare_end _ = bare.Rollback
 
--- Returns the test of the connection, unless it was made or the connection is known to be bad.
-abbrev pub bare_test : Caps → Ending → Option BareCall
-bare_test can it = cond (it.bad || it.tested) None (cond can.validator (Some bare.Valid) None)
-
 -- Returns what is sent next to end a transaction in this way.
 abbrev pub bare_ending : Caps → TxEnd → Ending → Option BareCall
-bare_ending can end it = cond it.ended (bare_test can it) (Some (bare_end end))
+bare_ending can end it =
+    cond it.ended (cond (it.bad || it.tested) None (cond can.validator (Some bare.Valid) None)) (Some (bare_end end))

@@ -1,4 +1,4 @@
--- What was heard in the line of a call in a transaction or on a pin, and its own cursor and handle that are open.
+-- What was heard in the line of a call in a transaction, and its own cursor and handle that are open.
 use Rattle.std.specs.Prelude.{ℕ, ℤ, ◌==◌, Bool, true, false, not, ◌&&◌, ◌||◌, cond, List, [], ◌∷◌, Option, Some, None}
 use Rattle.std.specs.List.{list_any}
 use Rattle.dsql_history.specs.driver.declared.call.DriverCall.{DriverCall}
@@ -11,12 +11,11 @@ use Rattle.dsql_history.specs.journal.declared.entry.Entry.{Entry}
 use Rattle.dsql_history.specs.journal.Kinds.{is_number}
 use Rattle.dsql_history.specs.works.Exchanges.{step_of}
 use Rattle.dsql_engine_exchanged.specs.Exchanged.{unheard, then_heard as then_exchanged}
-use Rattle.dsql_engine_exchanged.specs.Beginning.{unbegun, beginning_after}
 use Rattle.dsql_history.specs.Readers.Lines.{closes_cursor, closes_handle}
 use Rattle.dsql_engine_exchanged.specs.declared.heard.HeardLine.{HeardLine}
 
 abbrev pub nothing_heard : HeardLine
-nothing_heard = record { heard = unheard; beginning = unbegun; cursor = None; handle = None }
+nothing_heard = record { heard = unheard; cursor = None; handle = None }
 
 -- Returns the number, unless it is closed.
 abbrev pub unless_closed : (ℕ → Bool) → Option ℕ → Option ℕ
@@ -40,7 +39,6 @@ abbrev pub then_heard : Entry → HeardLine → HeardLine
 then_heard e it =
     record {
       heard = then_exchanged e it.heard;
-      beginning = beginning_after e;
       cursor = cursor_after (step_of e.call) e.answer it.cursor;
       handle = handle_after (step_of e.call) e.answer it.handle;
     }

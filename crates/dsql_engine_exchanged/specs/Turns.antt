@@ -1,4 +1,4 @@
--- How the lines of a begin, of a pin, and of a call in a transaction or on a pin come about.
+-- How the lines of a begin and of a call in a transaction come about.
 use Rattle.std.specs.Prelude.{◌≡◌, Bool, true, List, [], ◌∷◌}
 use Rattle.dsql_history.specs.driver.declared.caps.Caps.{Caps}
 use Rattle.dsql_history.specs.driver.declared.call.DriverCall.{DriverCall}
@@ -7,7 +7,7 @@ use Rattle.dsql_history.specs.course.declared.course.Wish.{Wish}
 use Rattle.dsql_history.specs.journal.declared.entry.Entry.{Entry}
 use Rattle.dsql_history.specs.works.Line.{Asked}
 use Rattle.dsql_history.specs.Rules.Line.{is_due}
-use Rattle.dsql_history.specs.Rules.Sent.{begin_line, inner_after, pin_line}
+use Rattle.dsql_history.specs.Rules.Sent.{begin_line, inner_after}
 
 -- Holds if the driver call of the entry was the next one, and its answer fits. The connection was known to be
 -- bad or not, and something was wanted from its rows or not.
@@ -29,10 +29,3 @@ BeginsInTurn can begin [] = Unit {0}
 BeginsInTurn can begin (e ∷ earlier) =
     ((reset_due : Bool) × (is_due (begin_line can reset_due begin earlier) e.call ≡ true))
     × BeginsInTurn can begin earlier
-
--- Holds if each entry of the line of a pin, newest first, was next after those before it, with a Reset due first
--- or not.
-abbrev pub PinsInTurn : List Entry → Type 0
-PinsInTurn [] = Unit {0}
-PinsInTurn (e ∷ earlier) =
-    ((reset_due : Bool) × (is_due (pin_line reset_due earlier) e.call ≡ true)) × PinsInTurn earlier

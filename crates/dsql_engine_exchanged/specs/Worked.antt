@@ -20,8 +20,8 @@ use Rattle.dsql_history.specs.Readers.Lines.{line_among}
 use Rattle.dsql_engine_exchanged.specs.declared.bare.BareCall.{BareCall}
 use Rattle.dsql_engine_exchanged.specs.declared.bare.BareCall.TheVariants as bare
 use Rattle.dsql_engine_exchanged.specs.declared.heard.HeardLine.{HeardLine}
-use Rattle.dsql_engine_exchanged.specs.Beginning.{beginning_in, bare_begin, bare_begin_on_pin, bare_pin}
-use Rattle.dsql_engine_exchanged.specs.Ending.{ending_in, bare_ending, bare_test}
+use Rattle.dsql_engine_exchanged.specs.Beginning.{beginning_in, bare_begin}
+use Rattle.dsql_engine_exchanged.specs.Ending.{ending_in, bare_ending}
 use Rattle.dsql_engine_exchanged.specs.Heard.{heard_line}
 use Rattle.dsql_engine_exchanged.specs.Inside.{bare_inside}
 
@@ -116,25 +116,6 @@ pub record WorkedEnd : Type 0 where
   pub bad : bare_ending can ends.Commit (ending_in (sent_by 7 calls.Commit answers.Bad ∷ closed)) ≡ None
   pub over : bare_ending can ends.Commit
       (ending_in (sent_by 7 calls.Valid answers.Done ∷ sent_by 7 calls.Commit answers.Done ∷ closed)) ≡ None
-
--- The entries of a pin's connection after call 2 has begun a transaction there.
-abbrev pub begun_on_pin : DriverAnswer → List Entry
-begun_on_pin answer = sent_by 2 (calls.Begin levels.Default false) answer ∷ reset
-
--- Returns what call 2 sends next to begin a transaction on the pin, after its line among these entries.
-abbrev pub begins_on_pin : List Entry → Option BareCall
-begins_on_pin heard = bare_begin_on_pin levels.Default false (heard_line (line_among 2 heard)).beginning
-
-pub record WorkedPin : Type 0 where
-  pub first : bare_pin true (beginning_in []) ≡ Some bare.Reset
-  pub pinned : bare_pin true (beginning_in reset) ≡ None
-  pub not_reset : bare_pin false (beginning_in []) ≡ None
-  pub begin : begins_on_pin reset ≡ Some begin_bare
-  pub begun : begins_on_pin (begun_on_pin answers.Done) ≡ None
-  pub failed : begins_on_pin (begun_on_pin (answers.Fail [])) ≡ None
-  pub test : bare_test can (ending_in (begun_on_pin (answers.Fail []))) ≡ Some bare.Valid
-  pub tested : bare_test can (ending_in (sent_by 0 calls.Valid answers.Done ∷ reset)) ≡ None
-  pub bad : bare_test can (ending_in (begun_on_pin answers.Bad)) ≡ None
 
 -- The statement that call 2 asks for.
 abbrev pub asked : Asked

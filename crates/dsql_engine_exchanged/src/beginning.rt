@@ -1,18 +1,17 @@
-//! The driver calls of a call that begins a transaction, or that pins a connection.
-ghost use Rattle.std.specs.Prelude.{◌≡◌, false, List, [], ◌∷◌, option_map};
+//! The driver calls of a call that begins a transaction.
+ghost use Rattle.std.specs.Prelude.{◌≡◌, List, [], ◌∷◌, option_map};
 ghost use Rattle.dsql_history.specs.journal.declared.entry.Entry.{Entry as EntryOf};
-ghost use Rattle.dsql_history.specs.driver.declared.caps.Caps.{Caps as CapsOf};
-ghost use Rattle.dsql_engine_exchanged.specs.Beginning.{unbegun, beginning_after, beginning_in, begun_if, bare_begin, bare_begin_on_pin, bare_pin};
+ghost use Rattle.dsql_engine_exchanged.specs.Beginning.{unbegun, beginning_after, beginning_in, begun_if, bare_begin};
 ghost use Rattle.dsql_engine_exchanged.specs.Filled.{filled};
 ghost use Rattle.dsql_history.specs.Readers.Lines.{line_among};
-ghost use Rattle.dsql_history.specs.Rules.Sent.{begin_line, pin_line, untested};
+ghost use Rattle.dsql_history.specs.Rules.Sent.{begin_line};
 ghost use Rattle.dsql_history.specs.works.Exchanges.{exchanges};
 ghost use Rattle.dsql_history.specs.works.Line.{Asked};
 
 use crate::bare::BareCall;
 use dsql_history::{Caps, DriverCall, Entry, Level};
 
-/// What was heard in the line of a begin or of a pin, as far as the next driver call depends on it.
+/// What was heard in the line of a begin, as far as the next driver call depends on it.
 #[derive(Clone, Copy, Debug, PartialEq, Eq)]
 pub enum Beginning {
     /// Nothing was heard yet.
@@ -90,40 +89,6 @@ impl Beginning {
             Beginning::Fresh | Beginning::Ready => Some(BareCall::Begin { level, read_only }),
             Beginning::Failed => caps.validator.then_some(BareCall::Valid),
             Beginning::Begun | Beginning::Over => None,
-        }
-    }
-
-    /// Returns the next driver call that begins a transaction with these options on a pin, after each line in which
-    /// this was heard. On a pin it is neither reset first nor tested.
-    pub fn next_on_pin(self, level: Level, read_only: bool) -> Option<BareCall>
-        ensures { (can : CapsOf) (asked : Asked) (line : List EntryOf) → beginning_in line ≡ self
-            → option_map (filled asked) result
-            ≡ begin_line (untested can) false (DriverCall.Begin level read_only) line }
-    {
-        self.bare_next_on_pin(level, read_only)
-    }
-
-    fn bare_next_on_pin(self, level: Level, read_only: bool) -> Option<BareCall>
-        ensures { result ≡ bare_begin_on_pin level read_only self }
-    {
-        let opens = matches!(self, Beginning::Fresh | Beginning::Ready);
-        opens.then_some(BareCall::Begin { level, read_only })
-    }
-
-    /// Returns the next driver call of a call that pins a connection, after each line in which this was heard.
-    pub fn next_of_pin(self, reset_due: bool) -> Option<BareCall>
-        ensures { (asked : Asked) (line : List EntryOf) → beginning_in line ≡ self → option_map (filled asked) result
-            ≡ pin_line reset_due line }
-    {
-        self.bare_next_of_pin(reset_due)
-    }
-
-    fn bare_next_of_pin(self, reset_due: bool) -> Option<BareCall>
-        ensures { result ≡ bare_pin reset_due self }
-    {
-        match self {
-            Beginning::Fresh => reset_due.then_some(BareCall::Reset),
-            _ => None,
         }
     }
 }

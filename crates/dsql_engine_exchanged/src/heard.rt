@@ -1,4 +1,4 @@
-//! What was heard in the line of a call in a transaction or on a pin.
+//! What was heard in the line of a call in a transaction.
 ghost use Rattle.std.specs.Prelude.{◌≡◌, ◌∷◌, List, true};
 ghost use Rattle.dsql_history.specs.journal.declared.entry.Entry.{Entry as EntryOf};
 ghost use Rattle.dsql_history.specs.journal.Kinds.{is_number};
@@ -6,16 +6,13 @@ ghost use Rattle.dsql_engine_exchanged.specs.Heard.{nothing_heard, heard_line, t
 ghost use Rattle.dsql_history.specs.Readers.Lines.{line_among, closes_cursor, closes_handle};
 ghost use Rattle.dsql_history.specs.works.Exchanges.{exchanges, step_of};
 
-use crate::beginning::Beginning;
 use crate::exchanged::Exchanged;
 use dsql_history::{DriverAnswer, DriverCall, Due, Entry, Input};
 
-/// What was heard in the line of a call in a transaction or on a pin, with its own open cursor and handle.
+/// What was heard in the line of a call in a transaction, with its own open cursor and handle.
 #[derive(Drop)]
 pub struct HeardLine {
     pub heard: Exchanged,
-    /// What was heard of its Begin, if it begins a transaction on a pin.
-    pub beginning: Beginning,
     /// The cursor that its run gave, until the cursor is closed.
     pub cursor: Option<u32>,
     /// The handle that it prepared itself, until the handle is closed.
@@ -29,14 +26,13 @@ impl HeardLine {
     {
         HeardLine {
             heard: Exchanged::new(),
-            beginning: Beginning::new(),
             cursor: None,
             handle: None,
         }
     }
 
-    /// Records an answer heard in the transaction or on the pin, if it belongs to the line of this call. It does if
-    /// the call sent the driver call, or if the driver call is about the call's own open cursor or handle.
+    /// Records an answer heard in the transaction if it belongs to the line of this call. It does if the call
+    /// sent the driver call, or if the driver call is about the call's own open cursor or handle.
     pub fn hear_if(&mut self, call: u32, entry: &Entry)
         ensures step { self.new ≡ heard_if call entry.now self.old }
 
@@ -61,7 +57,6 @@ impl HeardLine {
         ensures { self.new ≡ then_heard entry.now self.old }
     {
         self.heard.hear(entry);
-        self.beginning.hear(entry);
         if let Some(step) = step_of(&entry.call) {
             self.cursor = cursor_after(step, &entry.answer, self.cursor);
             self.handle = handle_after(step, &entry.answer, self.handle);

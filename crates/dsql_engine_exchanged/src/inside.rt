@@ -1,4 +1,4 @@
-//! The driver calls of a call in a transaction or on a pin.
+//! The driver calls of a call in a transaction.
 ghost use Rattle.std.specs.Prelude.{◌≡◌, length, option_map};
 ghost use Rattle.dsql_engine_exchanged.specs.Filled.{filled};
 ghost use Rattle.dsql_engine_exchanged.specs.Inside.{bare_of as bare_of_due, bare_inside, inside_told, step_inside};
@@ -9,8 +9,8 @@ use crate::bare::BareCall;
 use crate::exchanged::Exchanged;
 use dsql_history::{Aim, Caps, Course, Due, Progress, Wish};
 
-/// What decides the driver calls of a call in a transaction or on a pin. That is what the driver can do, what is wanted
-/// from rows that were handed out, and whether the connection is known to be bad.
+/// What decides the driver calls of a call in a transaction. That is what the driver can do, what is wanted from rows
+/// that were handed out, and whether the connection is known to be bad.
 #[derive(Clone, Copy)]
 pub struct Inside {
     pub caps: Caps,

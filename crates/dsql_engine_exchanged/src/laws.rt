@@ -13,17 +13,15 @@ ghost use Rattle.dsql_history.specs.journal.declared.entry.Entry.{Entry};
 ghost use Rattle.dsql_history.specs.journal.Kinds.{is_number};
 ghost use Rattle.dsql_history.specs.journal.Readers.{went_bad};
 ghost use Rattle.dsql_history.specs.tx.declared.end.TxEnd.{TxEnd};
-ghost use Rattle.dsql_engine_exchanged.specs.Beginning.{beginning_in};
 ghost use Rattle.dsql_engine_exchanged.specs.Ending.{ending_in};
 ghost use Rattle.dsql_engine_exchanged.specs.Heard.{heard_line, none_given_again};
 ghost use Rattle.dsql_engine_exchanged.specs.Inside.{inside_told};
-ghost use Rattle.dsql_engine_exchanged.specs.Turns.{BeginsInTurn, ComesInTurn, PinsInTurn};
-ghost use Rattle.dsql_engine_exchanged.specs.Worked.{WorkedBegin, WorkedInside, WorkedHeard, WorkedEnd, WorkedPin, WorkedTurns};
+ghost use Rattle.dsql_engine_exchanged.specs.Turns.{BeginsInTurn, ComesInTurn};
+ghost use Rattle.dsql_engine_exchanged.specs.Worked.{WorkedBegin, WorkedInside, WorkedHeard, WorkedEnd, WorkedTurns};
 ghost use Rattle.dsql_history.specs.declared.event.Event.{Event};
 ghost use Rattle.dsql_history.specs.Readers.Lines.{has_cursor, has_handle};
-ghost use Rattle.dsql_history.specs.Rules.Ending.{closing_call, end_after};
-ghost use Rattle.dsql_history.specs.Rules.Pinned.{testing};
-ghost use Rattle.dsql_history.specs.Rules.Sent.{begin_line, inner_after, pin_line};
+ghost use Rattle.dsql_history.specs.Rules.Ending.{end_after};
+ghost use Rattle.dsql_history.specs.Rules.Sent.{begin_line, inner_after};
 ghost use Rattle.dsql_history.specs.works.Exchanges.{exchanges};
 ghost use Rattle.dsql_history.specs.works.Line.{Asked, line_after};
 
@@ -37,11 +35,10 @@ pub fn what_is_told_comes_next_in_the_line()
         → inside_told can bad asked wish (exchanged_in line) ≡ inner_after can bad asked wish line }
 {}
 
-/// What was heard in the line of a call in a transaction or on a pin is what was exchanged there, also for a begin. Its
-/// cursor and its handle are those that are open, if no number was given again after it was closed.
+/// What was heard in the line of a call in a transaction is what was exchanged there. Its cursor and its handle
+/// are those that are open, if no number was given again after it was closed.
 pub fn what_was_heard_in_a_line()
     ensures heard { (line : List Entry) → (heard_line line).heard ≡ exchanged_in line }
-    ensures beginning { (line : List Entry) → (heard_line line).beginning ≡ beginning_in line }
     ensures cursor { (line : List Entry) (rows : ℕ) → none_given_again (exchanges line) ≡ true
         → is_number (heard_line line).cursor rows ≡ has_cursor (exchanges line) rows }
     ensures handle { (line : List Entry) (handle : ℕ) → none_given_again (exchanges line) ≡ true
@@ -54,13 +51,7 @@ pub fn a_begin_exchanges_nothing()
         → BeginsInTurn can (Begin level read_only) line → exchanges line ≡ [] }
 {}
 
-/// The line of a call that pins a connection has no step of a course, if each of its entries was next.
-pub fn a_pin_exchanges_nothing()
-    ensures { (line : List Entry) → PinsInTurn line → exchanges line ≡ [] }
-{}
-
-/// The line of a call in a transaction or on a pin gives no number again that was closed, if each of its entries was
-/// next.
+/// The line of a call in a transaction gives no number again that was closed, if each of its entries was next.
 pub fn a_line_gives_nothing_again()
     ensures { (can : Caps) (asked : Asked) (line : List Entry) → ComesInTurn can asked line
         → none_given_again (exchanges line) ≡ true }
@@ -85,16 +76,6 @@ pub fn what_is_sent_carries_what_is_asked()
         → IfSome (end_after before bad end heard) (Carries asked) }
 {}
 
-/// What is sent for a pin, or to end a transaction on one, has no text and no parameters.
-pub fn what_is_sent_for_a_pin_carries_what_is_asked()
-    ensures first { (reset_due : Bool) (asked : Asked) (line : List Entry)
-        → IfSome (pin_line reset_due line) (Carries asked) }
-    ensures closing { (tx : ℕ) (end : TxEnd) (asked : Asked) (heard : List Entry)
-        → IfSome (closing_call tx end heard) (Carries asked) }
-    ensures test { (before : List Event) (bad : Bool) (asked : Asked) (heard : List Entry)
-        → IfSome (testing before bad heard) (Carries asked) }
-{}
-
 /// A worked begin.
 pub fn worked_begin()
     ensures { WorkedBegin }
@@ -109,11 +90,6 @@ pub fn worked_call_in_a_transaction()
 /// A worked end of a transaction.
 pub fn worked_end()
     ensures { WorkedEnd }
-{}
-
-/// A worked pin, with a transaction on it.
-pub fn worked_pin()
-    ensures { WorkedPin }
 {}
 
 /// Each entry of a worked begin and of a worked call in a transaction was next.

@@ -1,6 +1,6 @@
 //! Decides the next driver call on a connection by what was heard there. A call on the database, the begin of a
-//! transaction, a call in one, or whoever ended it sends that driver call. So does a call that pins a connection, and
-//! each of these on a pin. Each record keeps only what the next driver call depends on.
+//! transaction, a call in one, or whoever ended it sends that driver call. Each record keeps only what the next
+//! driver call depends on.
 #![tactic(auto)]
 
 mod bare;

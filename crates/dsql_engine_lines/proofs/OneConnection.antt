@@ -30,7 +30,7 @@ use Rattle.dsql_laws_calls.proofs.HandedRows.{rows_begun}
 use Rattle.dsql_laws_calls.proofs.Inside.{inside, inside_uses}
 use Rattle.dsql_laws_calls.proofs.Lent.{lent_before}
 use Rattle.dsql_laws_calls.proofs.Looks.{comes, heard_there}
-use Rattle.dsql_laws_calls.proofs.Makers.{hands_out, rows_start_nothing, rows_hand_out}
+use Rattle.dsql_laws_calls.proofs.Makers.{hands_out, rows_begin_nothing, rows_hand_out}
 use Rattle.dsql_laws_calls.proofs.Owners.{at_home, lent_asks, lent_number}
 use Rattle.dsql_laws_calls.proofs.Stays.{as_many}
 use Rattle.dsql_laws_calls.proofs.TxEnders.{sent_entered}
@@ -61,7 +61,7 @@ ends_none H e k l u used is (inr (inl why)) =
     let ends : borrower H e.call_no ≡ k = rw is refl in
     let number : number_of u.owner ≡ k = sym used ∙ ends in
     let begin = ender_begins H e.call_no k l is (λ none. lent_number H e.conn e.tenure u.owner l u.lent (number ∙ none)) in
-    let none = rows_start_nothing H k (ap (λ j. is_some (rows_by H j)) (sym number) ∙ why.some) in
+    let none = rows_begin_nothing H k (ap (λ j. is_some (rows_by H j)) (sym number) ∙ why.some) in
     absurd cc
 ends_none H e k l u used is (inr (inr why)) = ap (is_begun H) used ∙ why.begun
 

@@ -86,7 +86,7 @@ same_dests _ _ = false
 
 abbrev pub same_target : Target → Target → Bool
 same_target targets.Db targets.Db = true
-same_target (targets.Label label) (targets.Label other) = bytes_eq label other
+same_target (targets.Label tx) (targets.Label other) = bytes_eq tx other
 same_target _ _ = false
 
 abbrev pub same_op : Op → Op → Bool
@@ -100,13 +100,11 @@ same_op (ops.Next rows) (ops.Next other) = bytes_eq rows other
 same_op (ops.Scan rows dests) (ops.Scan other kinds) = bytes_eq rows other && same_dests dests kinds
 same_op (ops.RowsClose rows) (ops.RowsClose other) = bytes_eq rows other
 same_op (ops.Err rows) (ops.Err other) = bytes_eq rows other
-same_op (ops.Begin label target level read_only) (ops.Begin name place other only) =
-    bytes_eq label name && (same_target target place && (same_level level other && same_truth read_only only))
+same_op (ops.Begin label level read_only) (ops.Begin name other only) =
+    bytes_eq label name && (same_level level other && same_truth read_only only)
 same_op (ops.Commit tx) (ops.Commit other) = bytes_eq tx other
 same_op (ops.Rollback tx) (ops.Rollback other) = bytes_eq tx other
-same_op (ops.Conn label) (ops.Conn other) = bytes_eq label other
-same_op (ops.ConnClose pin) (ops.ConnClose other) = bytes_eq pin other
-same_op (ops.Ping target) (ops.Ping other) = same_target target other
+same_op ops.Ping ops.Ping = true
 same_op ops.DbClose ops.DbClose = true
 same_op ops.Stats ops.Stats = true
 same_op _ _ = false

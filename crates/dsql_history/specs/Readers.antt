@@ -8,7 +8,6 @@ pub mod Works
 pub mod Journals
 pub mod Labels
 pub mod Transactions
-pub mod Pins
 pub mod Lines
 pub mod Decisions
 pub mod Calls

@@ -10,7 +10,6 @@ pub mod Order
 pub mod Causes
 pub mod Sent
 pub mod Ending
-pub mod Pinned
 pub mod Line
 pub mod Journals
 pub mod House

@@ -14,13 +14,11 @@ use Rattle.dsql_history_work.specs.driver.declared.call.Level.{Level}
 use Rattle.dsql_history_work.specs.driver.declared.call.Level.TheVariants as levels
 use Rattle.dsql_tx.specs.declared.end.TxEnd.{TxEnd}
 use Rattle.dsql_tx.specs.declared.end.TxEnd.TheVariants as ends
-use Rattle.dsql_pin.specs.declared.end.PinEnd.{PinEnd}
-use Rattle.dsql_pin.specs.declared.end.PinEnd.TheVariants as pin_ends
 use Rattle.dsql_history_work.specs.Same.{same_truth, same_cells}
 use Rattle.dsql_history_work.specs.Replies.{same_word, same_over, same_columns, same_cancel_cause}
 use Rattle.dsql_history.specs.declared.reply.Reply.{Reply}
 use Rattle.dsql_history.specs.declared.reply.Reply.TheVariants as reply
-use Rattle.dsql_history.specs.declared.reply.Reply.TheVariants.{Result, Rows, Truth, Cells, Driver, BadConn, NumArgs, HighBit, NamedRefused, BadName, Absent, TxDone, ConnDone, RowsClosed, Isolation, ReadOnly, NoNextYet, NoRows, DestCount, Scan, TooMany, DbClosed}
+use Rattle.dsql_history.specs.declared.reply.Reply.TheVariants.{Result, Rows, Truth, Cells, Driver, BadConn, NumArgs, HighBit, NamedRefused, BadName, Absent, TxDone, RowsClosed, Isolation, ReadOnly, NoNextYet, NoRows, DestCount, Scan, TooMany, DbClosed}
 
 abbrev pub same_cause : CloseCause → CloseCause → Bool
 same_cause Bad Bad = true
@@ -83,13 +81,6 @@ same_tx_end (ends.Cancel cause) (ends.Cancel other) = same_cancel_cause cause ot
 same_tx_end ends.EndOfRun ends.EndOfRun = true
 same_tx_end _ _ = false
 
-abbrev pub same_pin_end : PinEnd → PinEnd → Bool
-same_pin_end pin_ends.Close pin_ends.Close = true
-same_pin_end pin_ends.BadConn pin_ends.BadConn = true
-same_pin_end pin_ends.Discard pin_ends.Discard = true
-same_pin_end pin_ends.EndOfRun pin_ends.EndOfRun = true
-same_pin_end _ _ = false
-
 abbrev pub same_reply : Reply → Reply → Bool
 same_reply (Result last affected) (Result other count) = int_eq last other && int_eq affected count
 same_reply reply.Ok reply.Ok = true
@@ -104,7 +95,6 @@ same_reply (NamedRefused name) (NamedRefused other) = bytes_eq name other
 same_reply (BadName name) (BadName other) = bytes_eq name other
 same_reply (Absent label) (Absent other) = bytes_eq label other
 same_reply (TxDone by) (TxDone other) = same_tx_end by other
-same_reply (ConnDone by) (ConnDone other) = same_pin_end by other
 same_reply (RowsClosed by) (RowsClosed other) = same_over by other
 same_reply (Isolation level) (Isolation other) = same_level level other
 same_reply ReadOnly ReadOnly = true

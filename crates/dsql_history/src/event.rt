@@ -24,31 +24,30 @@ pub enum Control {
     Set(Setting, i64),
 }
 
-/// The object that a call is made on: the database, or the transaction or the pin with a label.
+/// The object that a call is made on: the database, or the transaction with a label.
 #[derive(Drop)]
 pub enum Target {
     Db,
     Label(Txt),
 }
 
-/// An operation that a client asks of the layer. Labels name transactions, pins and the rows that queries hand out. A
-/// pin is a connection that a client keeps.
+/// An operation that a client asks of the layer. Labels name transactions and the rows that queries hand out.
 #[derive(Drop)]
 pub enum Op {
-    /// `ExecContext` of `DB`, `Tx` or `Conn`, with a text and arguments.
+    /// `ExecContext` of `DB` or `Tx`, with a text and arguments.
     Exec {
         target: Target,
         text: Txt,
         args: Args,
     },
-    /// `QueryContext` of `DB`, `Tx` or `Conn`, with a text and arguments. Its rows get this label.
+    /// `QueryContext` of `DB` or `Tx`, with a text and arguments. Its rows get this label.
     Query {
         label: Txt,
         target: Target,
         text: Txt,
         args: Args,
     },
-    /// `QueryRowContext` of `DB`, `Tx` or `Conn`, with a text and arguments, and `Row.Scan` into destinations.
+    /// `QueryRowContext` of `DB` or `Tx`, with a text and arguments, and `Row.Scan` into destinations.
     One {
         target: Target,
         dests: Dests,
@@ -72,10 +71,9 @@ pub enum Op {
     Err {
         rows: Txt,
     },
-    /// `BeginTx` of `DB` or `Conn`, with `sql.TxOptions`. The transaction gets this label.
+    /// `DB.BeginTx` with `sql.TxOptions`. The transaction gets this label.
     Begin {
         label: Txt,
-        target: Target,
         level: Level,
         read_only: bool,
     },
@@ -87,18 +85,8 @@ pub enum Op {
     Rollback {
         tx: Txt,
     },
-    /// `DB.Conn`. The pin gets this label.
-    Conn {
-        label: Txt,
-    },
-    /// `Conn.Close`.
-    ConnClose {
-        pin: Txt,
-    },
-    /// `PingContext` of `DB` or `Conn`.
-    Ping {
-        target: Target,
-    },
+    /// `DB.PingContext`.
+    Ping,
     /// `DB.Close`.
     DbClose,
     /// `DB.Stats`.

@@ -1,6 +1,6 @@
 //! Defines the events of a history, and which histories are legal. A transaction keeps its connection from its
 //! begin to its commit or rollback. Calls of different clients may be under way in it at once, and its end ends
-//! its rows. A pin keeps its connection until it is closed, and transactions may be begun on it.
+//! its rows.
 #![tactic(auto)]
 
 mod event;
@@ -16,7 +16,6 @@ pub use dsql_history_work::{
     RowsFault, RowsOver, RowsTable, ScanFault, Sink, Source, Txt, Value, Values, Wire, Wish,
     check_args, scan_row,
 };
-pub use dsql_pin::PinEnd;
 pub use dsql_pool::{AskFault, Asked, CloseCause, Conn, Fate, MOST_OPEN, Move, Place, Pool, Stats};
 pub use dsql_tx::{TxEnd, Txs};
 pub use dsql_wait::Request;

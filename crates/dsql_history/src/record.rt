@@ -28,8 +28,6 @@ pub enum Stand {
     Opens(u32),
     /// A driver call of the call is under way on this connection, or starts as soon as the turn there is free.
     Sends(u32),
-    /// The call closes a pin, and waits until the rows or the transaction of this call on that pin are over.
-    Busy(u32),
     /// The call replies at its next step. Others have settled its reply, or it rests with a connection on which
     /// it has nothing to send.
     Replies,

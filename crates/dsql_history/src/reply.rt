@@ -1,5 +1,4 @@
 use dsql_history_work::{Cells, Columns, FaultWord, Level, RowsOver, Txt};
-use dsql_pin::PinEnd;
 use dsql_pool::Stats;
 use dsql_tx::TxEnd;
 
@@ -37,12 +36,10 @@ pub enum Reply {
     NamedRefused(Txt),
     /// An argument has this name, which doesn't begin with a letter.
     BadName(Txt),
-    /// No call has handed out rows, begun a transaction or made a pin under this label.
+    /// No call has handed out rows or begun a transaction under this label.
     Absent(Txt),
     /// This end had already ended the transaction: Go's `sql.ErrTxDone`.
     TxDone(TxEnd),
-    /// This end had already ended the pin: Go's `sql.ErrConnDone`.
-    ConnDone(PinEnd),
     /// This end had already ended the rows.
     RowsClosed(RowsOver),
     /// The begin asked for this isolation level, and the driver supports only the default one.

@@ -20,7 +20,7 @@ use Rattle.dsql_history.specs.Readers.Owed.{fate, given_back, left_of, owed}
 use Rattle.dsql_history.specs.Rules.Causes.{goes_in_turn, is_owed, is_given_back}
 use Rattle.dsql_history.specs.Rules.Course.{keeps_course}
 use Rattle.dsql_history.specs.Rules.Journals.{leaves_whole}
-use Rattle.dsql_history.specs.Rules.Line.{is_used, uses_pin, leaves_from}
+use Rattle.dsql_history.specs.Rules.Line.{is_used, leaves_from}
 use Rattle.dsql_history.specs.Rules.Order.{follows, keeps_order}
 use Rattle.dsql_history.specs.Legal.{Allowed, Lawful}
 use Rattle.dsql_laws.proofs.Tests.{together, move_itself}
@@ -41,8 +41,7 @@ none_owed H m none = ap (λ ms. follows ms (Pool m)) none
 leaves_line : (H : List Event) (c : ℕ) → MayLeave H c → leaves_from H (place H c) ≡ true
 leaves_line H c may =
     subst (λ at. leaves_from H at ≡ true) (sym may.lent)
-    (together (not (is_house may.owner)) (not (is_used H (number_of may.owner)) && not (uses_pin H may.owner)) (ap not may.owned)
-    (together (not (is_used H (number_of may.owner))) (not (uses_pin H may.owner)) (ap not may.unused) (ap not may.unpinned)))
+    (together (not (is_house may.owner)) (not (is_used H (number_of may.owner))) (ap not may.owned) (ap not may.unused))
 
 leaves_journal : (H : List Event) (c : ℕ) → MayLeave H c → leaves_whole H c (place H c) ≡ true
 leaves_journal H c may = subst (λ at. leaves_whole H c at ≡ true) (sym may.lent) may.whole

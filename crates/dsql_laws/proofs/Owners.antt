@@ -3,17 +3,15 @@ use Rattle.std.proofs.Common.{◌≡◌, ℕ, false, List, refl}
 use Rattle.dsql_history.specs.journal.Kinds.{is_house, number_of}
 use Rattle.dsql_history.specs.declared.event.Event.{Event}
 use Rattle.dsql_history.specs.declared.work.Work.{Work}
-use Rattle.dsql_history.specs.declared.work.Work.TheVariants.{Begin, Pin}
+use Rattle.dsql_history.specs.declared.work.Work.TheVariants.{Begin}
 use Rattle.dsql_history.specs.Readers.Works.{work, owner_as, owner_of}
 
 number_as : (w : Work) (n : ℕ) → number_of (owner_as w n) ≡ n
 number_as (Begin label level read_only) n = refl
-number_as (Pin label) n = refl
 number_as w n = refl
 
 house_as : (w : Work) (n : ℕ) → is_house (owner_as w n) ≡ false
 house_as (Begin label level read_only) n = refl
-house_as (Pin label) n = refl
 house_as w n = refl
 
 pub owner_number : (H : List Event) (n : ℕ) → number_of (owner_of H n) ≡ n

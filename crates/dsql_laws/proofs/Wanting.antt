@@ -18,7 +18,7 @@ use Rattle.dsql_history.proofs.pool.Frees.{passing}
 use Rattle.dsql_history.specs.declared.event.Control.TheVariants.{Tick, Set}
 use Rattle.dsql_history.specs.declared.work.Scope.TheVariants.{Db}
 use Rattle.dsql_history.specs.declared.work.Work.{Work}
-use Rattle.dsql_history.specs.declared.work.Work.TheVariants.{Statement, Begin, Pin, Ping as Pings, Look}
+use Rattle.dsql_history.specs.declared.work.Work.TheVariants.{Statement, Begin, Ping as Pings, Look}
 use Rattle.dsql_history.specs.declared.event.Event.{Event}
 use Rattle.dsql_history.specs.declared.event.Event.TheVariants.{Entered, Pool, Waits, Ticked, SetLimit, Ended}
 use Rattle.dsql_history.specs.declared.event.Op.TheVariants.{DbClose}
@@ -156,7 +156,6 @@ on_database H n l some own h = none_wanted n (pool H) (own_line H n l some own h
 sends_in : (H : List Event) (n : ℕ) (w : Work) → work H n ≡ w → Lawful H → n ≢ 0 → is_some (due_in H n w) ≡ true → wants n (pool H) ≡ false
 sends_in H n (Statement Db task) is l some h = on_database H n l some (rw is refl) h
 sends_in H n (Begin label level read_only) is l some h = on_database H n l some (rw is refl) h
-sends_in H n (Pin label) is l some h = on_database H n l some (rw is refl) h
 sends_in H n Pings is l some h = on_database H n l some (rw is refl) h
 sends_in H n Look is l some h = absurd cc
 sends_in H n _ is l some h = of_another H n l some (ap asks is)

@@ -1,10 +1,7 @@
 pub mod Sent
-pub mod Refers
-pub mod Pins
 pub mod Enders
 pub mod Begins
 pub mod Made
-pub mod OnPins
 pub mod Within
 pub mod Rules
 pub mod Histories

@@ -7,10 +7,8 @@ use Rattle.dsql_laws_calls.specs.journal.declared.entry.Entry.{Entry}
 use Rattle.dsql_laws_calls.specs.journal.declared.entry.Owner.TheVariants.{Call}
 use Rattle.dsql_laws_calls.specs.history.declared.event.Event.{Event}
 use Rattle.dsql_laws_calls.specs.history.declared.event.Event.TheVariants.{Heard, Replied}
-use Rattle.dsql_laws_calls.specs.history.declared.reply.Reply.TheVariants as replies
 use Rattle.dsql_cases_histories.specs.Words.{run_plain, x, y, r, exec, begin, row, one_changed, told_one_changed, begins, executes, executes_in, fetches, commits, rolls_back, open_start, lend, lend_tx, house, within}
 use Rattle.dsql_cases_histories.specs.Begun.{begun}
-use Rattle.dsql_cases_histories.specs.PinWords.{p, q, pinned, pinned_in, run_pinned_plain}
 
 -- Returns a rule of answers as a rule of events. Every other event keeps it.
 abbrev pub of_answers : (List Event → Entry → Bool) → List Event → Event → Bool
@@ -117,26 +115,4 @@ abbrev pub a_call_that_has_not_entered_sends : List Event
 a_call_that_has_not_entered_sends =
     begun
     ++ within 1 2 1 2 exec one_changed
-    ∷ []
-
--- An exec on a label that no call made sends on the pin of another call.
-abbrev pub an_exec_on_an_unknown_pin_sends : List Event
-an_exec_on_an_unknown_pin_sends =
-    run_pinned_plain
-    ++ executes_in q 2 2
-    ∷ pinned 1 2 1 2 exec one_changed
-    ∷ []
-
--- An exec on a pin carries the number of a transaction with a connection of its own.
-abbrev pub a_pin_carries_another_transaction : List Event
-a_pin_carries_another_transaction =
-    run_pinned_plain
-    ++ begins 2 2 x
-    ∷ open_start 2 2
-    ∷ house 2 1 calls.Connect answers.Done
-    ∷ lend_tx 2 2 2
-    ∷ within 2 2 2 2 begin answers.Done
-    ∷ Replied 2 replies.Ok
-    ∷ executes_in p 1 3
-    ∷ pinned_in 2 1 2 1 3 exec one_changed
     ∷ []

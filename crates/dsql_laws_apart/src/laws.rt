@@ -4,21 +4,18 @@ ghost use Rattle.dsql_laws_calls.specs.journal.declared.entry.Entry.{Entry};
 ghost use Rattle.dsql_laws_calls.specs.history.declared.event.Event.{Event};
 ghost use Rattle.dsql_laws_calls.specs.history.declared.event.Event.TheVariants.{Heard};
 ghost use Rattle.dsql_laws_calls.specs.history.Legal.{Lawful};
-ghost use Rattle.dsql_laws_apart.specs.Apart.{are_apart, begins_as_asked, comes_from_within, has_unfinished_sender, keeps_to_its_own, names_what_was_made, stands_in_its_transaction, tidies_after_the_end, uses_its_connection, works_on_its_pin};
+ghost use Rattle.dsql_laws_apart.specs.Apart.{are_apart, begins_as_asked, comes_from_within, has_unfinished_sender, keeps_to_its_own, names_what_was_made, stands_in_its_transaction, tidies_after_the_end, uses_its_connection};
 
 /// A call sends only after it has entered and before it replies. It sends nothing if it names a transaction that wasn't
-/// begun, a pin that wasn't made, or rows that weren't handed out. So a call on a label that no call before it made
-/// sends nothing.
+/// begun, or rows that weren't handed out. So a call on a label that no call before it made sends nothing.
 ///
-/// A call sends only in tenures of its borrower, or of the transaction that its borrower begins, or of the pin that it
-/// makes. The borrower is the call to which the pool lent the connection that the call uses. A call that asks for a
-/// connection of its own sends on no other. Whoever sends in a pin's tenure works on that pin. It is the call that
-/// makes the pin, or one that names it.
+/// A call sends only in tenures of its borrower, or of the transaction that its borrower begins. The borrower is the
+/// call to which the pool lent the connection that the call uses. A call that asks for a connection of its own sends
+/// on no other.
 ///
 /// A Begin is sent by the very call that asked for it, with the options that it asked for. What is sent for a
-/// transaction is sent in a tenure of that transaction, or of the pin on which it was begun. Its sender names that
-/// transaction or ended it, or it is the Begin and its sender begins that transaction. The layer itself sends in the
-/// tenure of a call or a transaction only after the run has ended.
+/// transaction is sent in a tenure of that transaction. Its sender names that transaction or ended it, unless it is the
+/// Begin. The layer itself sends in the tenure of a call or a transaction only after the run has ended.
 pub fn each_call_sends_its_own()
     ensures unfinished { (before : List Event) (e : Entry) → Lawful (Heard e ∷ before)
         → has_unfinished_sender before e ≡ true }
@@ -26,14 +23,13 @@ pub fn each_call_sends_its_own()
     ensures sender { (before : List Event) (e : Entry) → Lawful (Heard e ∷ before) → uses_its_connection before e
         ≡ true }
     ensures begin { (before : List Event) (e : Entry) → Lawful (Heard e ∷ before) → begins_as_asked before e ≡ true }
-    ensures transaction { (before : List Event) (e : Entry) → Lawful (Heard e ∷ before)
-        → stands_in_its_transaction before e ≡ true }
+    ensures transaction { (before : List Event) (e : Entry) → Lawful (Heard e ∷ before) → stands_in_its_transaction e
+        ≡ true }
     ensures inside { (before : List Event) (e : Entry) → Lawful (Heard e ∷ before) → comes_from_within before e ≡ true }
     ensures layer { (before : List Event) (e : Entry) → Lawful (Heard e ∷ before) → tidies_after_the_end before e
         ≡ true }
     ensures outside { (before : List Event) (e : Entry) → Lawful (Heard e ∷ before) → keeps_to_its_own before e
         ≡ true }
-    ensures pin { (before : List Event) (e : Entry) → Lawful (Heard e ∷ before) → works_on_its_pin before e ≡ true }
 {}
 
 /// In a lawful history each answer keeps all of these rules, so callers are kept apart.

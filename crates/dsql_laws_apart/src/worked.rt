@@ -4,13 +4,10 @@ ghost use Rattle.std.specs.Prelude.{◌≡◌, true, reverse};
 ghost use Rattle.dsql_cases_histories.specs.Damaged.{a_begin_is_asked_for_otherwise, a_call_of_one_transaction_sends_in_another, a_call_on_the_database_sends_in_a_transaction, the_layer_rolls_it_back};
 ghost use Rattle.dsql_cases_histories.specs.Ended.{a_close_that_waits_sends_nothing, it_is_tested_as_it_ends, its_rows_are_closed_first, the_end_of_the_run_rolls_back};
 ghost use Rattle.dsql_cases_histories.specs.Kept.{a_begin_is_tried_again, a_begin_that_fails_begins_nothing, rows_in_a_transaction, the_database_works_on_beside_it, two_clients_work_in_one_transaction, two_transactions_at_once};
-ghost use Rattle.dsql_cases_histories.specs.DamagedPins.{a_call_on_the_database_sends_on_a_pin, a_statement_goes_to_another_connection, a_statement_on_a_pin_has_a_number};
-ghost use Rattle.dsql_cases_histories.specs.OnPins.{a_begin_is_under_way_on_a_closed_pin, clients_work_in_and_beside_a_transaction, rows_outlive_their_pin, the_end_of_the_run_tidies_a_pin_up, the_run_ends_while_a_connclose_waits};
-ghost use Rattle.dsql_cases_histories.specs.Pins.{a_conn_is_tried_again, a_ping_on_a_pin};
 ghost use Rattle.dsql_cases_histories.specs.Refusals.{is_refused_at};
 ghost use Rattle.dsql_cases_histories.specs.Rows.{two_fetches_each_given_a_row};
-ghost use Rattle.dsql_laws_apart.specs.Apart.{are_apart, begins_as_asked, comes_from_within, has_unfinished_sender, keeps_to_its_own, names_what_was_made, stands_in_its_transaction, tidies_after_the_end, uses_its_connection, works_on_its_pin};
-ghost use Rattle.dsql_laws_apart.specs.Worked.{an_exec_on_an_unknown_label_sends, a_commit_of_an_unknown_label_sends, a_fetch_from_unknown_rows_sends, another_call_sends_the_begin, an_exec_in_it_sends_a_begin, a_begin_sends_an_exec, a_rollback_sends_after_a_commit_entered, an_exec_beside_it_has_its_number, an_exec_in_it_sends_after_its_reply, a_call_that_has_not_entered_sends, a_pin_carries_another_transaction, an_exec_on_an_unknown_pin_sends, of_answers};
+ghost use Rattle.dsql_laws_apart.specs.Apart.{are_apart, begins_as_asked, comes_from_within, has_unfinished_sender, keeps_to_its_own, names_what_was_made, stands_in_its_transaction, tidies_after_the_end, uses_its_connection};
+ghost use Rattle.dsql_laws_apart.specs.Worked.{an_exec_on_an_unknown_label_sends, a_commit_of_an_unknown_label_sends, a_fetch_from_unknown_rows_sends, another_call_sends_the_begin, an_exec_in_it_sends_a_begin, a_begin_sends_an_exec, a_rollback_sends_after_a_commit_entered, an_exec_beside_it_has_its_number, an_exec_in_it_sends_after_its_reply, a_call_that_has_not_entered_sends, of_answers};
 
 /// These legal histories keep callers apart. Clients work in one transaction, in two, and beside one. Calls, commits
 /// and the layer close rows. In one, calls on a label that no transaction got send nothing.
@@ -26,19 +23,6 @@ pub fn legal_histories_of_callers()
     ensures it_is_tested_as_it_ends { are_apart (reverse it_is_tested_as_it_ends) ≡ true }
     ensures a_begin_is_tried_again { are_apart (reverse a_begin_is_tried_again) ≡ true }
     ensures a_begin_that_fails_begins_nothing { are_apart (reverse a_begin_that_fails_begins_nothing) ≡ true }
-{}
-
-/// Legal histories with pins keep callers apart too. Clients work on a pin, and in transactions there. A pin is closed
-/// or the run ends while a transaction or rows on it go on.
-pub fn legal_histories_of_callers_on_pins()
-    ensures a_conn_is_tried_again { are_apart (reverse a_conn_is_tried_again) ≡ true }
-    ensures a_ping_on_a_pin { are_apart (reverse a_ping_on_a_pin) ≡ true }
-    ensures clients_work_in_and_beside_a_transaction { are_apart (reverse clients_work_in_and_beside_a_transaction)
-        ≡ true }
-    ensures a_begin_is_under_way_on_a_closed_pin { are_apart (reverse a_begin_is_under_way_on_a_closed_pin) ≡ true }
-    ensures rows_outlive_their_pin { are_apart (reverse rows_outlive_their_pin) ≡ true }
-    ensures the_end_of_the_run_tidies_a_pin_up { are_apart (reverse the_end_of_the_run_tidies_a_pin_up) ≡ true }
-    ensures the_run_ends_while_a_connclose_waits { are_apart (reverse the_run_ends_while_a_connclose_waits) ≡ true }
 {}
 
 /// Each of these histories is legal before this answer, which breaks this rule.
@@ -58,7 +42,7 @@ pub fn refused_histories_of_callers()
     ensures a_begin_sends_an_exec { is_refused_at 7 (of_answers comes_from_within) a_begin_sends_an_exec ≡ true }
     ensures a_rollback_sends_after_a_commit_entered { is_refused_at 10 (of_answers comes_from_within)
         a_rollback_sends_after_a_commit_entered ≡ true }
-    ensures an_exec_beside_it_has_its_number { is_refused_at 12 (of_answers stands_in_its_transaction)
+    ensures an_exec_beside_it_has_its_number { is_refused_at 12 (of_answers (λ before. stands_in_its_transaction))
         an_exec_beside_it_has_its_number ≡ true }
     ensures an_exec_in_it_sends_after_its_reply { is_refused_at 11 (of_answers has_unfinished_sender)
         an_exec_in_it_sends_after_its_reply ≡ true }
@@ -69,18 +53,4 @@ pub fn refused_histories_of_callers()
     ensures a_call_on_the_database_sends_in_a_transaction { is_refused_at 10 (of_answers keeps_to_its_own)
         a_call_on_the_database_sends_in_a_transaction ≡ true }
     ensures the_layer_rolls_it_back { is_refused_at 8 (of_answers tidies_after_the_end) the_layer_rolls_it_back ≡ true }
-{}
-
-/// Each of these histories on a pin is legal before this answer, which breaks this rule.
-pub fn refused_histories_of_callers_on_pins()
-    ensures an_exec_on_an_unknown_pin_sends { is_refused_at 8 (of_answers names_what_was_made)
-        an_exec_on_an_unknown_pin_sends ≡ true }
-    ensures a_statement_goes_to_another_connection { is_refused_at 15 (of_answers uses_its_connection)
-        a_statement_goes_to_another_connection ≡ true }
-    ensures a_call_on_the_database_sends_on_a_pin { is_refused_at 9 (of_answers works_on_its_pin)
-        a_call_on_the_database_sends_on_a_pin ≡ true }
-    ensures a_statement_on_a_pin_has_a_number { is_refused_at 11 (of_answers comes_from_within)
-        a_statement_on_a_pin_has_a_number ≡ true }
-    ensures a_pin_carries_another_transaction { is_refused_at 14 (of_answers stands_in_its_transaction)
-        a_pin_carries_another_transaction ≡ true }
 {}

@@ -1,5 +1,5 @@
--- Proves what ended rows that are over and that no call ended. The end of the run did, or they were handed out in a
--- transaction or on a pin.
+-- Proves that rows which are over, and which no call ended, were ended by the end of the run or handed out in a
+-- transaction.
 use Rattle.std.proofs.Common.{◌≡◌, ℕ, ◌==◌, Bool, true, false, not, cond, List, [], ◌∷◌, ◌++◌, map, Option, Some, None, refl, sym, ap, ◌∙◌, ◌⊎◌, inl, inr}
 use Rattle.std.specs.Option.{option_or}
 use Rattle.dsql_laws_calls.specs.driver.declared.call.DriverCall.{DriverCall}
@@ -22,28 +22,28 @@ use Rattle.dsql_laws_calls.specs.history.declared.event.Event.TheVariants.{Enter
 use Rattle.dsql_laws_calls.specs.history.declared.event.Op.{Op}
 use Rattle.dsql_laws_calls.specs.history.declared.event.Op.TheVariants as ops
 use Rattle.dsql_laws_calls.specs.history.declared.work.Scope.{Scope}
-use Rattle.dsql_laws_calls.specs.history.declared.work.Scope.TheVariants.{Db}
+use Rattle.dsql_laws_calls.specs.history.declared.work.Scope.TheVariants.{Db, Held}
 use Rattle.dsql_laws_calls.specs.history.declared.work.Work.{Work}
 use Rattle.dsql_laws_calls.specs.history.declared.work.Task.TheVariants.{HandOut}
 use Rattle.dsql_laws_calls.specs.history.declared.work.Work.TheVariants.{Statement, Fetch, Look}
 use Rattle.dsql_laws_calls.specs.history.Readers.Course.{has_ended}
 use Rattle.dsql_laws_calls.specs.history.Readers.Unfinished.{is_unfinished}
-use Rattle.dsql_laws_calls.specs.history.Readers.Works.{works, work, rows_maker, tx_maker, asks_in, scope}
+use Rattle.dsql_laws_calls.specs.history.Readers.Works.{works, work, rows_maker, tx_maker, scope}
 use Rattle.dsql_laws_calls.specs.history.Legal.{Lawful}
 use Rattle.dsql_laws_callers.proofs.Ended.{ended_still, entered_number}
 use Rattle.dsql_laws_callers.proofs.Things.{with_new, none_changed, none_mapped}
 use Rattle.dsql_laws_callers.proofs.Works.{some_works, work_stays}
 
--- Is true if the work hands out rows in a transaction or on a pin.
+-- Is true if the work hands out rows in a transaction.
 abbrev pub hands_out_inside : Work → Bool
-hands_out_inside (Statement it (HandOut label)) = not (asks_in it)
+hands_out_inside (Statement (Held k) (HandOut label)) = true
 hands_out_inside _ = false
 
 -- Rows that weren't made before an answer are made by it. They are over after it only if they are late.
 
 late_inside : (H : List Event) (s : Scope) (label : List ℕ) (rows : Rows) → live (Some rows) ≡ true → over (Some (born (is_late H s) rows)) ≡ true → hands_out_inside (Statement s (HandOut label)) ≡ true
+late_inside H (Held k) label rows lives h = refl
 late_inside H Db label rows lives h = absurd (true_false _ h (ap not lives))
-late_inside H s label rows lives h = refl
 
 new_over : (H : List Event) (s : Scope) (label : List ℕ) (m n : ℕ) (rows : Rows) → live (Some rows) ≡ true → over (cond (n == m) (Some (born (is_late H s) rows)) None) ≡ true → (n ≡ m) × (hands_out_inside (Statement s (HandOut label)) ≡ true)
 new_over H s label m n rows lives h = by (n == m) refl h
@@ -86,7 +86,7 @@ entered_none H op rows n none = by op
     by (ops.Rollback tx) = with_tx tx
     by _ = none
 
--- Rows that are over, and that weren't made before the event, are handed out in a transaction or on a pin.
+-- Rows that are over, and that weren't made before the event, are handed out in a transaction.
 made_over : (H : List Event) (e : Event) (n : ℕ) → rows_by H n ≡ None → are_over (e ∷ H) n ≡ true → hands_out_inside (work H n) ≡ true
 made_over H (Heard e) n none h =
     let f = heard_none H (work H e.call_no) e.call_no e.call e.answer (handed_out H) n none h in ap (λ m. hands_out_inside (work H m)) f.0 ∙ f.1
@@ -121,7 +121,7 @@ ended_now H _ n l lives is none = absurd (true_false _ is (live_not_over (rows_b
 inside_stays : (H : List Event) (e : Event) (n : ℕ) → hands_out_inside (work H n) ≡ true → hands_out_inside (work (e ∷ H) n) ≡ true
 inside_stays H e n h = ap hands_out_inside (work_stays H e n (has_entered H n (λ none. true_false _ h (ap hands_out_inside none)))) ∙ h
 
--- If rows are over and no call ended them, the run has ended or they were handed out in a transaction or on a pin.
+-- If rows are over and no call ended them, the run has ended or they were handed out in a transaction.
 pub over_unended : (H : List Event) (n : ℕ) → Lawful H → are_over H n ≡ true → ender H n ≡ 0 → (has_ended H ≡ true) ⊎ (hands_out_inside (work H n) ≡ true)
 over_unended [] n l is none = absurd cc
 over_unended (e ∷ H) n l is none = by (are_over H n) refl (are_live H n) refl (λ was ended. over_unended H n l.0 was ended)

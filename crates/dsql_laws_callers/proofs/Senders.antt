@@ -6,10 +6,6 @@ use Rattle.std.specs.Option.{option_map}
 use Rattle.dsql_laws_calls.specs.driver.declared.call.DriverCall.{DriverCall}
 use Rattle.dsql_laws_calls.specs.journal.declared.entry.Entry.{Entry}
 use Rattle.dsql_laws_calls.specs.journal.declared.entry.Owner.{Owner}
-use Rattle.dsql_laws_calls.specs.journal.declared.entry.Owner.TheVariants.{Pin}
-use Rattle.dsql_laws_calls.specs.driver.declared.call.DriverCall.TheVariants.{Reset, Valid, Begin}
-use Rattle.dsql_laws_calls.specs.driver.Fits.{is_done}
-use Rattle.dsql_laws_calls.specs.driver.Kinds.{is_begin}
 use Rattle.dsql_laws_calls.specs.journal.Kinds.{number_of}
 use Rattle.dsql_laws_calls.specs.pool.declared.conn.Conn.{Conn}
 use Rattle.dsql_laws_calls.specs.pool.declared.conn.Place.{Place}
@@ -29,12 +25,11 @@ use Rattle.dsql_laws_calls.specs.history.declared.work.Work.TheVariants.{Look}
 use Rattle.dsql_laws_calls.specs.history.Readers.Calls.{site}
 use Rattle.dsql_laws_calls.specs.history.Readers.Pool.{pool, place, home}
 use Rattle.dsql_laws_calls.specs.history.Readers.Unfinished.{is_unfinished}
-use Rattle.dsql_laws_calls.specs.history.Readers.Works.{works, work, borrower, tx_of}
-use Rattle.dsql_laws_calls.specs.history.Rules.Line.{due_in, due_for, due_from, tidying_for, tx_tidied, tx_on_pin, is_numbered, is_at, has_turn, is_due, is_due_at, parts, may_come}
-use Rattle.dsql_laws_calls.specs.history.Rules.Pinned.{tidying_on}
+use Rattle.dsql_laws_calls.specs.history.Readers.Works.{works, work, borrower}
+use Rattle.dsql_laws_calls.specs.history.Rules.Line.{due_in, due_for, due_from, tidying, is_at, has_turn, is_due, is_due_at, parts, may_come}
 use Rattle.dsql_laws_calls.specs.history.Rules.Moves.{moves_from, numbers_lending}
 use Rattle.dsql_laws_calls.specs.history.Legal.{Allowed, Lawful}
-use Rattle.dsql_laws_callers.proofs.Works.{borrower_stays, tx_stays, works_stay}
+use Rattle.dsql_laws_callers.proofs.Works.{borrower_stays, works_stay}
 use Rattle.dsql_laws_callers.proofs.Tenures.{HasBegun, begun_still, open_opened}
 use Rattle.dsql_laws_callers.proofs.Homes.{home_owner}
 
@@ -82,7 +77,7 @@ lend_begins H c t o n a =
           omega (arith, lends, tenure);
     }
 
-pub lend_anew : (H : List Event) (c t : ℕ) (o : Owner) (n : ℕ) → HasBegun H c t → Allowed H (Pool (Lend c t o n)) → ⊥
+lend_anew : (H : List Event) (c t : ℕ) (o : Owner) (n : ℕ) → HasBegun H c t → Allowed H (Pool (Lend c t o n)) → ⊥
 lend_anew H c t o n b a =
     let f = lent_from H c t o n a in
     let so_often = b.lent f.from f.found in
@@ -101,30 +96,19 @@ lent_has_begun (e ∷ H) c t o l is = by (lent_before H e c t o l.0 is) (λ was.
     by (inl was) earlier = begun_still H e c t (earlier was)
     by (inr lends) earlier = lends_begins H e c t o lends l.1
 
--- Returns the transaction of a call's driver call on a pin. A Begin stands in the transaction that its call begins.
-abbrev pub tx_sent : List Event → Entry → ℕ
-tx_sent H e = cond (is_begin e.call) e.call_no (tx_of H e.call_no)
-
--- Holds if the call uses the connection that is lent to the owner of that tenure, whichever owner that is. If that is a
--- pin, the entry stands in the call's transaction or in none.
+-- Holds if the call uses the connection that is lent to the owner of that tenure, whichever owner that is.
 pub record IsSenders (H : List Event) (e : Entry) : Type 0 where
   pub tenure : HasBegun H e.conn e.tenure
   pub entered : e.call_no < length (works H)
   pub owner : (o : Owner) → place H e.conn ≡ Some (Lent e.tenure o) → borrower H e.call_no ≡ number_of o
-  pub pinned : (p : ℕ) → place H e.conn ≡ Some (Lent e.tenure (Pin p)) → e.tx ≢ 0 → e.tx ≡ tx_sent H e
 
 senders_still : (H : List Event) (last : Event) (e : Entry) → Lawful (last ∷ H) → IsSenders H e → IsSenders (last ∷ H) e
 senders_still H last e l s = record {
   tenure = begun_still H last e.conn e.tenure s.tenure;
   entered = works_stay H last e.call_no s.entered;
   owner = λ o is. by o (lent_before H last e.conn e.tenure o l.0 is);
-  pinned = λ p is some. on p some (lent_before H last e.conn e.tenure (Pin p) l.0 is);
 }
   where
-    on : (p : ℕ) → e.tx ≢ 0 → (place H e.conn ≡ Some (Lent e.tenure (Pin p))) ⊎ Lends last e.conn e.tenure (Pin p) → e.tx ≡ tx_sent (last ∷ H) e
-    on p some (inl was) = s.pinned p was some ∙ ap (λ k. cond (is_begin e.call) e.call_no k) (sym (tx_stays H last e.call_no s.entered))
-    on p some (inr lends) = absurd (lend_anew H e.conn e.tenure (Pin p) lends.0 s.tenure (subst (λ d. Allowed H d) lends.1 l.1))
-
     by : (o : Owner) → (place H e.conn ≡ Some (Lent e.tenure o)) ⊎ Lends last e.conn e.tenure o → borrower (last ∷ H) e.call_no ≡ number_of o
     by o (inl was) = borrower_stays H last e.call_no s.entered ∙ s.owner o was
     by o (inr lends) = absurd (lend_anew H e.conn e.tenure o lends.0 s.tenure (subst (λ d. Allowed H d) lends.1 l.1))
@@ -136,19 +120,17 @@ pub record DueThere (H : List Event) (e : Entry) : Type 0 where
   pub owner : Owner
   pub lent : place H e.conn ≡ Some (Lent e.tenure owner)
   pub at : is_at H e.call_no e.conn ≡ true
-  pub due : is_due (due_from H e.call_no owner) e.call ≡ true
-  pub numbered : is_numbered H owner e ≡ true
+  pub due : is_due (due_from H e.call_no (number_of owner)) e.call ≡ true
 
 pub due_there : (H : List Event) (e : Entry) → is_due_at H (place H e.conn) e ≡ true → DueThere H e
 due_there H e h = by (place H e.conn) refl h
   where
     by : (p : Option Place) → place H e.conn ≡ p → is_due_at H p e ≡ true → DueThere H e
     by (Some (Lent t o)) is k =
-        let a = both (e.tenure == t) (is_at H e.call_no e.conn && (has_turn H e.conn e.call_no && (is_due (due_from H e.call_no o) e.call && is_numbered H o e))) k in
-        let b = both (is_at H e.call_no e.conn) (has_turn H e.conn e.call_no && (is_due (due_from H e.call_no o) e.call && is_numbered H o e)) a.1 in
-        let c = both (has_turn H e.conn e.call_no) (is_due (due_from H e.call_no o) e.call && is_numbered H o e) b.1 in
-        let d = both (is_due (due_from H e.call_no o) e.call) (is_numbered H o e) c.1 in
-        record { owner = o; lent = is ∙ ap (λ u. Some (Lent u o)) (sym (same_number e.tenure t a.0)); at = b.0; due = d.0; numbered = d.1 }
+        let a = both (e.tenure == t) (is_at H e.call_no e.conn && (has_turn H e.conn e.call_no && is_due (due_from H e.call_no (number_of o)) e.call)) k in
+        let b = both (is_at H e.call_no e.conn) (has_turn H e.conn e.call_no && is_due (due_from H e.call_no (number_of o)) e.call) a.1 in
+        let c = both (has_turn H e.conn e.call_no) (is_due (due_from H e.call_no (number_of o)) e.call) b.1 in
+        record { owner = o; lent = is ∙ ap (λ u. Some (Lent u o)) (sym (same_number e.tenure t a.0)); at = b.0; due = c.1 }
     by _ is k = absurd cc
 
 pub not_due : (q : DriverCall) → is_due None q ≡ true → ⊥
@@ -162,34 +144,17 @@ due_works H m q h none = by (is_unfinished H m) (ap (λ it. is_due (cond (is_unf
     by true d = not_due q d
     by false d = not_due q d
 
--- A driver call on a pin that is due stands in the call's transaction or in none.
-due_numbered : (H : List Event) (p : ℕ) (e : Entry) (q : DriverCall) → e.call_no ≢ 0 → e.tx ≢ 0 → e.tx ≡ tx_on_pin H p e q → e.tx ≡ cond (is_begin q) e.call_no (tx_of H e.call_no)
-due_numbered H p e Reset called some is = absurd (some is)
-due_numbered H p e Valid called some is = absurd (some is)
-due_numbered H p e (Begin level read_only) called some is = by (is_done e.answer) is
-  where
-    by : (b : Bool) → e.tx ≡ cond b e.call_no 0 → e.tx ≡ e.call_no
-    by true k = k
-    by false k = absurd (some k)
-due_numbered H p e q called some is = is ∙ ap (λ b. cond b (tx_tidied (tidying_on H p)) (tx_of H e.call_no)) (other_number e.call_no 0 called)
-
-pub same_lent : (t : ℕ) (o q : Owner) → Some (Lent t o) ≡ Some (Lent t q) → o ≡ q
-same_lent t o q h = cc
-
 due_senders : (H : List Event) (e : Entry) → Lawful H → e.call_no ≢ 0 → is_due_at H (place H e.conn) e ≡ true → IsSenders H e
 due_senders H e l some h =
     let d = due_there H e h in
     let other : (e.call_no == 0) ≡ false = other_number e.call_no 0 some in
-    let due : is_due (due_for H e.call_no) e.call ≡ true = ap (λ b. is_due (cond b (tidying_for H d.owner) (due_for H e.call_no)) e.call) (sym other) ∙ d.due in
+    let due : is_due (due_for H e.call_no) e.call ≡ true = ap (λ b. is_due (cond b (tidying H (number_of d.owner)) (due_for H e.call_no)) e.call) (sym other) ∙ d.due in
     let at : (site H e.call_no == e.conn) ≡ true = ap (λ b. b || (site H e.call_no == e.conn)) (sym other) ∙ d.at in
     let home_at : home H (borrower H e.call_no) ≡ e.conn = same_number (site H e.call_no) e.conn at in
     record {
       tenure = lent_has_begun H e.conn e.tenure d.owner l d.lent;
       entered = has_entered H e.call_no (due_works H e.call_no e.call due);
       owner = λ o is. sym (home_owner H (borrower H e.call_no) e.conn e.tenure o home_at is);
-      pinned = λ p is in_tx.
-          let own = same_lent e.tenure d.owner (Pin p) (sym d.lent ∙ is) in
-          due_numbered H p e e.call some in_tx (same_number e.tx (tx_on_pin H p e e.call) (ap (λ o. is_numbered H o e) (sym own) ∙ d.numbered));
     }
 
 -- An entry that may come was due at an earlier moment, and its call uses the connection of that tenure.

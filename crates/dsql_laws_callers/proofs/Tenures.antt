@@ -17,7 +17,7 @@ use Rattle.dsql_laws_calls.proofs.Found.{place_in, changed_off, gone_at, gone_of
 use Rattle.dsql_laws_calls.proofs.laws_work.Rows.{same_or_not}
 use Rattle.dsql_laws_calls.specs.history.declared.event.Event.{Event}
 use Rattle.dsql_laws_calls.specs.history.declared.event.Event.TheVariants.{Pool}
-use Rattle.dsql_laws_calls.specs.history.Readers.Pool.{pool, wanted_by}
+use Rattle.dsql_laws_calls.specs.history.Readers.Pool.{pool, place, wanted_by}
 use Rattle.dsql_laws_callers.proofs.Numbered.{Stays, Shuts, stays_or_shuts, numbered, found_there, unwanted_number}
 
 -- An open connection has a number that was given.

@@ -13,10 +13,9 @@ use Rattle.dsql_laws_calls.specs.history.declared.event.Event.{Event}
 use Rattle.dsql_laws_calls.specs.history.declared.event.Event.TheVariants.{Entered}
 use Rattle.dsql_laws_calls.specs.history.declared.event.Op.{Op}
 use Rattle.dsql_laws_calls.specs.history.declared.event.Op.TheVariants as ops
-use Rattle.dsql_laws_calls.specs.history.declared.event.Target.TheVariants as targets
 use Rattle.dsql_laws_calls.specs.history.declared.work.Work.{Work}
-use Rattle.dsql_laws_calls.specs.history.declared.work.Work.TheVariants.{BeginOn, End, EndWithin, Unpin, Fetch, Close, Look}
-use Rattle.dsql_laws_calls.specs.history.Readers.Works.{works, work, work_at, work_of, closing_of, tx_maker, hands_out_as, scope, asks, borrower_in, borrower, tx_in, tx_of}
+use Rattle.dsql_laws_calls.specs.history.declared.work.Work.TheVariants.{End, Fetch, Close, Look}
+use Rattle.dsql_laws_calls.specs.history.Readers.Works.{works, work, work_of, hands_out_as, scope, asks, borrower_in, borrower}
 
 -- Holds if the call whose rows the work is for is among the first n.
 abbrev pub RefersWithin : ℕ → Work → Type 0
@@ -45,19 +44,9 @@ some_works (_ ∷ H) = some_works H
 maker_within : (H : List Event) (p : Work → Bool) → or_zero (position p (works H)) < length (works H)
 maker_within H p = position_within p (works H) (some_works H)
 
-closing_refers : (n k : ℕ) (it : Work) → RefersWithin n (closing_of it k)
-closing_refers n k (BeginOn pin label level read_only) = tt
-closing_refers n k it = tt
-
 new_refers : (H : List Event) (op : Op) → RefersWithin (length (works H)) (work_of (works H) op)
 new_refers H (ops.Next rows) = maker_within H (hands_out_as rows)
 new_refers H (ops.RowsClose rows) = maker_within H (hands_out_as rows)
-new_refers H (ops.Begin label targets.Db level read_only) = tt
-new_refers H (ops.Begin label (targets.Label pin) level read_only) = tt
-new_refers H (ops.Ping targets.Db) = tt
-new_refers H (ops.Ping (targets.Label pin)) = tt
-new_refers H (ops.Commit tx) = closing_refers (length (works H)) (tx_maker (works H) tx) (work_at (works H) (tx_maker (works H) tx))
-new_refers H (ops.Rollback tx) = closing_refers (length (works H)) (tx_maker (works H) tx) (work_at (works H) (tx_maker (works H) tx))
 new_refers H _ = tt
 
 -- A call is only for rows of an earlier one.
@@ -88,8 +77,6 @@ abbrev borrower_for : List Event → Work → ℕ → ℕ
 borrower_for H (Fetch k) n = borrower_in (scope (work H k)) k
 borrower_for H (Close k) n = borrower_in (scope (work H k)) k
 borrower_for H (End k) n = k
-borrower_for H (EndWithin pin k) n = pin
-borrower_for H (Unpin pin) n = pin
 borrower_for H it n = borrower_in (scope it) n
 
 rows_borrower : (H : List Event) (e : Event) (k : ℕ) → k < length (works H) → borrower_in (scope (work (e ∷ H) k)) k ≡ borrower_in (scope (work H k)) k
@@ -103,23 +90,6 @@ same_borrower H e _ m old = refl
 -- The call whose connection an entered call uses stays the same.
 pub borrower_stays : (H : List Event) (e : Event) (m : ℕ) → m < length (works H) → borrower (e ∷ H) m ≡ borrower H m
 borrower_stays H e m old = ap (λ it. borrower_for (e ∷ H) it m) (work_stays H e m old) ∙ same_borrower H e (work H m) m (refers_within H m)
-
--- Returns the transaction in which a call with this work sends.
-abbrev tx_for : List Event → Work → ℕ
-tx_for H (Fetch k) = tx_in (scope (work H k))
-tx_for H (Close k) = tx_in (scope (work H k))
-tx_for H (End k) = k
-tx_for H (EndWithin pin k) = k
-tx_for H it = tx_in (scope it)
-
-same_tx : (H : List Event) (e : Event) (it : Work) → RefersWithin (length (works H)) it → tx_for (e ∷ H) it ≡ tx_for H it
-same_tx H e (Fetch k) old = ap (λ it. tx_in (scope it)) (work_stays H e k old)
-same_tx H e (Close k) old = ap (λ it. tx_in (scope it)) (work_stays H e k old)
-same_tx H e _ old = refl
-
--- The transaction in which an entered call sends stays the same.
-pub tx_stays : (H : List Event) (e : Event) (m : ℕ) → m < length (works H) → tx_of (e ∷ H) m ≡ tx_of H m
-tx_stays H e m old = ap (λ it. tx_for (e ∷ H) it) (work_stays H e m old) ∙ same_tx H e (work H m) (refers_within H m)
 
 -- A call that asks for a connection of its own still does so after an event.
 pub asks_still : (H : List Event) (e : Event) (m : ℕ) → asks (work H m) ≡ true → asks (work (e ∷ H) m) ≡ true

@@ -10,17 +10,15 @@ use Rattle.dsql_laws.specs.pool.Changes.{back, closing}
 use Rattle.dsql_laws.specs.pool.Places.{is_for}
 use Rattle.dsql_laws.specs.pool.Pooled.{next_number}
 use Rattle.dsql_laws.specs.history.declared.event.Control.TheVariants.{Tick, Set}
-use Rattle.dsql_laws.specs.history.declared.record.Stand.{Stand}
 use Rattle.dsql_laws.specs.history.declared.record.Stand.TheVariants as stands_at
 use Rattle.dsql_laws.specs.history.Readers.Pool.{smallest, pool, wanted_by}
 use Rattle.dsql_laws.specs.history.Readers.Tries.{asks_again, tries}
-use Rattle.dsql_laws.specs.history.Rules.Stands.{stands, opens, is_waiting, lingers_on, has_to_reply, stand}
+use Rattle.dsql_laws.specs.history.Rules.Stands.{stands, opens, is_waiting, has_to_reply, stand}
 use Rattle.dsql_laws.proofs.Tests.{both, same_number}
 use Rattle.dsql_laws.proofs.Counts.{waits_some, changed_fewer, gone_fewer}
 use Rattle.dsql_laws.proofs.Tried.{is_lent_out, lent_count, shut_fewer, begun_same, same_control}
 use Rattle.dsql_laws.proofs.Wanted.{homes_apart}
-use Rattle.dsql_laws.specs.history.declared.work.Work.{Work}
-use Rattle.dsql_laws.specs.history.declared.work.Work.TheVariants.{Look, Unpin}
+use Rattle.dsql_laws.specs.history.declared.work.Work.TheVariants.{Look}
 use Rattle.dsql_laws.specs.history.Readers.Works.{works, work}
 use Rattle.dsql_laws.specs.history.Rules.Line.{due_for}
 use Rattle.dsql_laws.specs.history.declared.event.Event.{Event}
@@ -40,9 +38,8 @@ use Rattle.dsql_laws_work.proofs.Rows.{within_rows}
 use Rattle.dsql_laws.specs.tx.declared.tx.Tx.{Tx}
 use Rattle.dsql_laws.specs.tx.Transactions.{begun_on, ended_by}
 use Rattle.dsql_laws.specs.history.Readers.Transactions.{tx_by, end_of, is_begun, is_over}
-use Rattle.dsql_laws_calls.specs.Nothing.{unpins}
-use Rattle.dsql_laws_calls.proofs.Plain.{starts}
-use Rattle.dsql_laws_calls.proofs.Begun.{EndsIt, BeginsIt, entered_tx, heard_tx, begun_starts, over_begun, as_begun}
+use Rattle.dsql_laws_calls.proofs.Plain.{begins}
+use Rattle.dsql_laws_calls.proofs.Begun.{EndsIt, BeginsIt, entered_tx, heard_tx, begun_begins, over_begun, as_begun}
 use Rattle.dsql_laws_calls.proofs.Stays.{as_many}
 
 -- A call that hasn't entered has no work.
@@ -53,21 +50,16 @@ no_work_yet H m above = by (within_rows (works H) m Look)
     by (inl less) = let same = as_many H in absurd (omega (arith, less, above, same))
     by (inr none) = none.1
 
--- As the run ends, each call without a reply waits for a connection, except one that closes a pin.
+-- As the run ends, each call without a reply waits.
 
-pub waits_only : (w d r a : Bool) (o : Option ℕ) (c : ℕ) (x : Option Stand) → is_waiting x ≡ false
-    → is_waiting (or_else (stands w stands_at.Waits) (or_else (opens o) (or_else (stands d (stands_at.Sends c)) (or_else x (or_else (stands r stands_at.Replies) (stands a stands_at.Asks)))))) ≡ true → w ≡ true
-waits_only true d r a o c x k h = refl
-waits_only false d r a (Some i) c x k h = absurd cc
-waits_only false true r a None c x k h = absurd cc
-waits_only false false r a None c (Some it) k h = let wrong : false ≡ true = sym k ∙ h in absurd cc
-waits_only false false true a None c None k h = absurd cc
-waits_only false false false true None c None k h = absurd cc
-waits_only false false false false None c None k h = absurd cc
-
-lingers_not : (H : List Event) (c n : ℕ) (w : Work) → unpins w ≡ false → is_waiting (lingers_on H c n w) ≡ false
-lingers_not H c n (Unpin pin) h = absurd cc
-lingers_not H c n w h = refl
+pub waits_only : (w d r a : Bool) (o : Option ℕ) (c : ℕ)
+    → is_waiting (or_else (stands w stands_at.Waits) (or_else (opens o) (or_else (stands d (stands_at.Sends c)) (or_else (stands r stands_at.Replies) (stands a stands_at.Asks))))) ≡ true → w ≡ true
+waits_only true d r a o c h = refl
+waits_only false d r a (Some k) c h = absurd cc
+waits_only false true r a None c h = absurd cc
+waits_only false false true a None c h = absurd cc
+waits_only false false false true None c h = absurd cc
+waits_only false false false false None c h = absurd cc
 
 pub all_has : (q : ℕ → Bool) (ns : List ℕ) (n : ℕ) → list_all q ns ≡ true → has n ns ≡ true → q n ≡ true
 all_has q [] n h k = absurd cc
@@ -84,15 +76,14 @@ quiet_at_end H a =
     let c = both (not (has_ended H)) (is_quiet H) b.1 in
     c.1
 
-pub waits_at_end : (H : List Event) (n : ℕ) → Allowed H Ended → is_unfinished H n ≡ true → unpins (work H n) ≡ false → waits n (pool H).waiting ≡ true
-waits_at_end H n a u no_pin =
+pub waits_at_end : (H : List Event) (n : ℕ) → Allowed H Ended → is_unfinished H n ≡ true → waits n (pool H).waiting ≡ true
+waits_at_end H n a u =
     let b = both (list_all (λ m. is_waiting (stand H m)) (unfinished H)) (has_no_chore H) (quiet_at_end H a) in
     let its = all_has (λ m. is_waiting (stand H m)) (unfinished H) n b.0 u in
-    waits_only (waits n (pool H).waiting) (is_some (due_for H n)) (has_to_reply H n) (asks_again (tries H n)) (smallest (is_for n) (pool H)) (site H n)
-    (lingers_on H (site H n) n (work H n)) (lingers_not H (site H n) n (work H n) no_pin) its
+    waits_only (waits n (pool H).waiting) (is_some (due_for H n)) (has_to_reply H n) (asks_again (tries H n)) (smallest (is_for n) (pool H)) (site H n) its
 
-pub wants_at_end : (H : List Event) (n : ℕ) → Allowed H Ended → is_unfinished H n ≡ true → unpins (work H n) ≡ false → wants n (pool H) ≡ true
-wants_at_end H n a u no_pin = ap (λ b. b || list_any (λ conn. is_for n conn.place) (pool H).conns) (waits_at_end H n a u no_pin)
+pub wants_at_end : (H : List Event) (n : ℕ) → Allowed H Ended → is_unfinished H n ≡ true → wants n (pool H) ≡ true
+wants_at_end H n a u = ap (λ b. b || list_any (λ conn. is_for n conn.place) (pool H).conns) (waits_at_end H n a u)
 
 pub waiting_unlent : (H : List Event) (n : ℕ) → Lawful H → n ≢ 0 → waits n (pool H).waiting ≡ true → lent_count n (pool H) ≡ 0
 waiting_unlent H n l some h =
@@ -119,10 +110,6 @@ unlent_stays H _ n l h none = none
 -- If a transaction was ended before its begin had its reply, the end of the run ended it, and it has no
 -- connection.
 
-pub starts_no_unpin : (w : Work) → starts w ≡ true → unpins w ≡ false
-starts_no_unpin (Unpin pin) h = absurd cc
-starts_no_unpin w h = refl
-
 record LeftOver (H : List Event) (n : ℕ) : Type 0 where
   ended : has_ended H ≡ true
   unlent : lent_count n (pool H) ≡ 0
@@ -141,9 +128,9 @@ left_over (Entered client m op ∷ H) n l over u = by (left_over H n l.0) (enter
     other : is_begun H n ≡ true → n ≢ m
     other b same =
         let new = enters_next H client m op l.1 in
-        let begins_it = begun_starts H n l.0 b in
+        let begins_it = begun_begins H n l.0 b in
         let looks : work H n ≡ Look = no_work_yet H n (omega (arith, new, same)) in
-        let clash : true ≡ false = sym begins_it ∙ ap starts looks in
+        let clash : true ≡ false = sym begins_it ∙ ap begins looks in
         cc
 
     by : (is_over H n ≡ true → is_unfinished H n ≡ true → LeftOver H n) → (tx_by (Entered client m op ∷ H) n ≡ tx_by H n) ⊎ EndsIt H n (tx_by (Entered client m op ∷ H) n) → LeftOver (Entered client m op ∷ H) n
@@ -162,8 +149,7 @@ left_over (Heard e ∷ H) n l over u = by (left_over H n l.0) (heard_tx H e n)
     by rest (inl same) = left_on H (Heard e) n l (λ h. h) (rest (sym (over_one (tx_by H n) (tx_by (Heard e ∷ H) n) same) ∙ over) u)
     by rest (inr it) = let clash : true ≡ false = sym over ∙ over_one (Some (begun_on e.conn e.tenure None)) (tx_by (Heard e ∷ H) n) it.so in absurd cc
 left_over (Ended ∷ H) n l over u =
-    let started = begun_starts (Ended ∷ H) n l (over_begun (Ended ∷ H) n over) in
-    let none = waiting_unlent H n l.0 (unfinished_from_one H n l.0 u) (waits_at_end H n l.1 u (starts_no_unpin (work H n) started)) in
+    let none = waiting_unlent H n l.0 (unfinished_from_one H n l.0 u) (waits_at_end H n l.1 u) in
     let few = shut_fewer n (pool H) in
     record { ended = refl; unlent = omega (arith, none, few) }
 left_over (Replied m reply ∷ H) n l over u = let b = still_unfinished H m reply n u in left_on H (Replied m reply) n l (λ h. h) (left_over H n l.0 over b.1)

@@ -12,7 +12,7 @@ use Rattle.dsql_laws.specs.course.declared.course.Wish.TheVariants as wishes
 use Rattle.dsql_laws.specs.course.Made.{or_else}
 use Rattle.dsql_laws.specs.journal.declared.entry.Entry.{Entry}
 use Rattle.dsql_laws.specs.journal.declared.entry.Owner.{Owner}
-use Rattle.dsql_laws.specs.journal.Kinds.{is_call, number_of, is_pin}
+use Rattle.dsql_laws.specs.journal.Kinds.{is_call, number_of}
 use Rattle.dsql_laws.specs.pool.declared.conn.Place.TheVariants.{Lent}
 use Rattle.dsql_laws.specs.pool.declared.moves.Move.TheVariants.{Lend}
 use Rattle.dsql_laws.specs.works.Exchanges.{step_of, exchanges}
@@ -38,10 +38,10 @@ use Rattle.dsql_laws.specs.history.Rules.Sent.{is_reset_due, begin_after, begin_
 use Rattle.dsql_laws.specs.history.Rules.Line.{is_due}
 use Rattle.dsql_laws.specs.history.Legal.{Allowed, Lawful}
 use Rattle.dsql_laws.proofs.Asker.{asker}
-use Rattle.dsql_laws_calls.proofs.Owners.{owner_is_of, lent_asks}
+use Rattle.dsql_laws_calls.proofs.Owners.{owner_is_of}
 use Rattle.dsql_laws_calls.proofs.Wanted.{lent_nothing}
 use Rattle.dsql_laws_calls.proofs.Looks.{heard_there, comes}
-use Rattle.dsql_laws_calls.proofs.Plain.{begins, starts}
+use Rattle.dsql_laws_calls.proofs.Plain.{begins}
 use Rattle.dsql_laws_calls.proofs.Begun.{begun_begins}
 use Rattle.dsql_laws_calls.proofs.Ends.{zero_work}
 use Rattle.dsql_laws.proofs.Tried.{lends_to}
@@ -50,16 +50,6 @@ use Rattle.dsql_laws_calls.proofs.Own.{own_way, own_sends}
 
 wrong : true ≡ false → ⊥
 wrong h = cc
-
-pub starts_busy : (w : Work) → starts w ≡ true → w ≡ Look → ⊥
-starts_busy w h look = let clash : false ≡ true = sym (ap starts look) ∙ h in cc
-
-pub starts_numbered : (H : List Event) (n : ℕ) → starts (work H n) ≡ true → (n == 0) ≡ false
-starts_numbered H n h = by (n == 0) refl
-  where
-    by : (b : Bool) → (n == 0) ≡ b → b ≡ false
-    by true is = absurd (starts_busy (work H n) h (ap (work H) (same_number n 0 is) ∙ zero_work H))
-    by false is = refl
 
 pub begins_busy : (w : Work) → begins w ≡ true → w ≡ Look → ⊥
 begins_busy w h look = let clash : false ≡ true = sym (ap begins look) ∙ h in cc
@@ -82,13 +72,6 @@ begins_owner w n h = absurd cc
 
 pub begin_owner : (H : List Event) (c t : ℕ) (own : Owner) → Lawful H → place H c ≡ Some (Lent t own) → begins (work H (number_of own)) ≡ true → is_call own ≡ false
 begin_owner H c t own l is h = let o = owner_is_of H c t own l is in ap is_call o.1 ∙ begins_owner (work H (number_of own)) (number_of own) h
-
-begins_no_pin : (w : Work) (n : ℕ) → begins w ≡ true → is_pin (owner_as w n) ≡ false
-begins_no_pin (works_of.Begin label level read_only) n h = refl
-begins_no_pin w n h = absurd cc
-
-pub begin_no_pin : (H : List Event) (c t : ℕ) (own : Owner) → Lawful H → place H c ≡ Some (Lent t own) → begins (work H (number_of own)) ≡ true → is_pin own ≡ false
-begin_no_pin H c t own l is h = let o = owner_is_of H c t own l is in ap is_pin o.1 ∙ begins_no_pin (work H (number_of own)) (number_of own) h
 
 -- The line of a begin is `begin_line`, with the options of that begin.
 pub begin_there : (H : List Event) (c t : ℕ) (own : Owner) → begins (work H (number_of own)) ≡ true → is_call own ≡ false
@@ -153,12 +136,12 @@ pub record Beginnings (H : List Event) : Type 0 where
   pub steps : (c t : ℕ) (own : Owner) → place H c ≡ Some (Lent t own) → begins (work H (number_of own)) ≡ true → exchanges (line_among (number_of own) (heard_in H c t)) ≡ []
   pub began : (c t : ℕ) (own : Owner) → place H c ≡ Some (Lent t own) → is_begun H (number_of own) ≡ true → last_began (line_among (number_of own) (heard_in H c t)) ≡ true
   pub wants : (n : ℕ) → is_begun H n ≡ true → wanted n (pool H) ≡ 0
-  pub told : (n : ℕ) → asks (work H n) ≡ true → is_begun H n ≡ true → is_unfinished H n ≡ true → is_some (decided H n) ≡ true
+  pub told : (n : ℕ) → is_begun H n ≡ true → is_unfinished H n ≡ true → is_some (decided H n) ≡ true
 
 pub silent : (H : List Event) → Beginnings H → (n : ℕ) → is_begun H n ≡ true → may_ask H n ≡ true → ⊥
 silent H b n begun may =
     let a = asker H n may in
-    let some = b.told n a.own begun a.unfinished in
+    let some = b.told n begun a.unfinished in
     settled (decided H n) some a.unsettled
   where
     settled : (o : Option Reply) → is_some o ≡ true → or_else (or_else o (told_by_others H n)) (told_at_lending H n) ≡ None → ⊥
@@ -172,15 +155,14 @@ lent_once_begun H c t own k l a b begun =
     let its : is_begun H k ≡ true = ap (is_begun H) same ∙ begun in
     lent_nothing H c t own k l a (silent H b k its) (b.wants k its)
 
--- No driver call of a call that has begun a transaction on its own connection is under way.
-pub still : (H : List Event) (e : Entry) → Lawful H → Allowed H (Heard e) → Beginnings H → asks (work H e.call_no) ≡ true → is_begun H e.call_no ≡ true → ⊥
-still H e l a b own begun =
-    let begins_it = begun_begins H e.call_no l own begun in
+-- No driver call of a call that has begun a transaction is under way.
+pub still : (H : List Event) (e : Entry) → Lawful H → Allowed H (Heard e) → Beginnings H → is_begun H e.call_no ≡ true → ⊥
+still H e l a b begun =
+    let begins_it = begun_begins H e.call_no l begun in
     let there = heard_there H e a in
     let some = numbered H e.call_no begins_it in
     let u = own_way H e l (comes H e (place H e.conn) there.sets there.line some) some (asking (work H e.call_no) begins_it) in
     let its : is_begun H (number_of u.owner) ≡ true = ap (is_begun H) u.own ∙ begun in
-    let begins_so = begun_begins H (number_of u.owner) l (lent_asks H e.conn e.tenure u.owner l u.lent) its in
-    let at = begin_there H e.conn e.tenure u.owner begins_so (begin_owner H e.conn e.tenure u.owner l u.lent begins_so) in
+    let at = begin_there H e.conn e.tenure u.owner (begun_begins H (number_of u.owner) l its) (begin_owner H e.conn e.tenure u.owner l u.lent (begun_begins H (number_of u.owner) l its)) in
     let none = began_sends_none (caps H) (is_reset_due H e.conn) (calls.Begin at.0 at.1) (line_among (number_of u.owner) (heard_in H e.conn e.tenure)) (b.began e.conn e.tenure u.owner u.lent its) in
     wrong (sym (own_sends H e u) ∙ (ap (λ d. is_some d) at.2 ∙ none))

@@ -1,5 +1,5 @@
 -- Each event keeps what holds of the calls that begin transactions.
-use Rattle.std.proofs.Common.{◌≡◌, ◌≢◌, ℕ, ◌≤◌, ◌<◌, ◌==◌, ◌⊎◌, inl, inr, zero, suc, Bool, true, false, not, ◌&&◌, ◌||◌, cond, List, [], ◌∷◌, Option, Some, is_some, length, refl, sym, ap, subst, ◌∙◌, arith}
+use Rattle.std.proofs.Common.{◌≡◌, ◌≢◌, ℕ, ◌≤◌, ◌<◌, ◌==◌, ◌⊎◌, inl, inr, Bool, true, false, not, ◌&&◌, ◌||◌, cond, List, [], ◌∷◌, Option, Some, is_some, length, refl, sym, ap, subst, ◌∙◌, arith}
 use Rattle.dsql_laws.specs.driver.declared.call.DriverCall.{DriverCall}
 use Rattle.dsql_laws.specs.driver.declared.call.DriverCall.TheVariants as calls_of
 use Rattle.dsql_laws.specs.driver.declared.answer.DriverAnswer.{DriverAnswer}
@@ -25,7 +25,7 @@ use Rattle.dsql_laws.specs.history.declared.event.Op.{Op}
 use Rattle.dsql_laws.specs.history.declared.reply.Reply.{Reply}
 use Rattle.dsql_laws.specs.history.declared.work.Work.TheVariants.{Look}
 use Rattle.dsql_laws.specs.history.Readers.Unfinished.{is_unfinished}
-use Rattle.dsql_laws.specs.history.Readers.Works.{work, asks}
+use Rattle.dsql_laws.specs.history.Readers.Works.{work}
 use Rattle.dsql_laws.specs.history.Readers.Journals.{journal, heard_in}
 use Rattle.dsql_laws.specs.history.Readers.Lines.{is_about, line_among}
 use Rattle.dsql_laws.specs.history.Readers.Pool.{pool, place, home}
@@ -42,12 +42,11 @@ use Rattle.dsql_laws_calls.proofs.Tenures.{fresh_lending}
 use Rattle.dsql_laws_calls.proofs.Wanted.{lent_wants_none, wants_no_more}
 use Rattle.dsql_laws_calls.proofs.Works.{enters_next, old_record, other_heard, other_replied, old_unfinished, still_unfinished}
 use Rattle.dsql_laws_calls.proofs.Looks.{heard_there, comes}
-use Rattle.dsql_laws.proofs.Wanting.{wanting_works}
-use Rattle.dsql_laws_calls.proofs.Plain.{begins, starts, starts_own}
-use Rattle.dsql_laws_calls.proofs.Begun.{BeginsIt, as_begun, entered_tx, heard_tx, ended_tx, begun_starts, begun_begins, begin_heard}
+use Rattle.dsql_laws_calls.proofs.Plain.{begins}
+use Rattle.dsql_laws_calls.proofs.Begun.{BeginsIt, as_begun, entered_tx, heard_tx, ended_tx, begun_begins, begin_heard}
 use Rattle.dsql_laws_calls.proofs.AtEnd.{no_work_yet}
 use Rattle.dsql_laws_calls.proofs.Own.{OwnWay, own_way}
-use Rattle.dsql_laws_calls.proofs.Beginnings.{Beginnings, starts_busy, starts_numbered, begins_busy, asking, numbered, begin_owner, begin_there, begin_stepless, due_steps, last_began, silent, lent_once_begun, still}
+use Rattle.dsql_laws_calls.proofs.Beginnings.{Beginnings, begins_busy, asking, numbered, begin_owner, begin_there, begin_stepless, due_steps, last_began, silent, lent_once_begun, still}
 use Rattle.dsql_laws_calls.proofs.Born.{heard_at}
 use Rattle.dsql_laws_calls.proofs.LineParts.{about_none}
 use Rattle.dsql_laws.specs.history.Readers.Course.{caps}
@@ -88,8 +87,8 @@ told_on H (Replied m reply) n a h busy u = let b = still_unfinished H m reply n 
 told_on H (Heard e) n a h busy u = absurd cc
 told_on H e n a h busy u = refl
 
-numbered_so : (H : List Event) (n : ℕ) → starts (work H n) ≡ true → n ≢ 0
-numbered_so H n h none = clash (n == 0) (ap (λ j. j == 0) none) (starts_numbered H n h)
+numbered_so : (H : List Event) (n : ℕ) → begins (work H n) ≡ true → n ≢ 0
+numbered_so H n h none = clash (n == 0) (ap (λ j. j == 0) none) (numbered H n h)
   where
     clash : (b : Bool) → b ≡ true → b ≡ false → ⊥
     clash b x y = cc
@@ -114,12 +113,11 @@ quiet H e l none b = record {
       ];
   wants = λ n begun.
       let were = was_begun H e n none begun in
-      wants_no_more H e n l.1 (numbered_so H n (begun_starts H n l.0 were)) (silent H b n were) (b.wants n were);
-  told = λ n own begun u.
+      wants_no_more H e n l.1 (numbered_so H n (begun_begins H n l.0 were)) (silent H b n were) (b.wants n were);
+  told = λ n begun u.
       let were = was_begun H e n none begun in
-      let busy = starts_busy (work H n) (begun_starts H n l.0 were) in
-      let owned : asks (work H n) ≡ true = sym (ap asks (work_stays H e n busy)) ∙ own in
-      ap (λ o. is_some o) (told_on H e n l.1 none busy u) ∙ b.told n owned were (was_unfinished H e n l.1 busy u);
+      let busy = begins_busy (work H n) (begun_begins H n l.0 were) in
+      ap (λ o. is_some o) (told_on H e n l.1 none busy u) ∙ b.told n were (was_unfinished H e n l.1 busy u);
 }
 
 -- The event is an answer.
@@ -203,13 +201,11 @@ began_heard H e l b c t own is begun = by (heard_tx H e (number_of own))
 
         at : (e.conn ≡ c) ⊎ (e.conn ≢ c) → last_began (line_among (number_of own) (heard_in (Heard e ∷ H) c t)) ≡ true
         at (inl here) =
-            grown false (other_number e.call_no (number_of own) (λ number. still H e l.0 l.1 b (ap (λ j. asks (work H j)) number ∙ lent_asks H c t own l.0 is) (ap (is_begun H) number ∙ were))) here
-            (begun_begins H (number_of own) l.0 (lent_asks H c t own l.0 is) were) (b.began c t own is were)
+            grown false (other_number e.call_no (number_of own) (λ number. still H e l.0 l.1 b (ap (is_begun H) number ∙ were))) here (begun_begins H (number_of own) l.0 were) (b.began c t own is were)
         at (inr apart) = ap (λ J. last_began (line_among (number_of own) (of_tenure t J))) (heard_other H e c apart) ∙ b.began c t own is were
     by (inr it) =
         let there = heard_there H e l.1 in
-        let started = begin_heard H e (place H e.conn) there.sets there.line it.begin in
-        let begin = starts_own (work H e.call_no) (ap (λ j. asks (work H j)) (sym it.own) ∙ lent_asks H c t own l.0 is) started in
+        let begin = begin_heard H e (place H e.conn) there.sets there.line it.begin in
         let u = way_of H e l.0 l.1 begin in
         let own_number : number_of u.owner ≡ number_of own = u.own ∙ sym it.own in
         let here : e.conn ≡ c = sym (at_home H e.conn e.tenure u.owner l.0 u.lent) ∙ ap (home H) own_number ∙ at_home H c t own l.0 is in
@@ -247,34 +243,21 @@ heard H e l b = record {
         | inl same ↦ b.wants n (ap (λ o. is_some o) (sym same) ∙ begun)
         | inr it ↦
             (let there = heard_there H e l.1 in
-            let started = begin_heard H e (place H e.conn) there.sets there.line it.begin in
-            ap (λ k. wanted k (pool H)) it.own ∙ unwanting started (asks (work H e.call_no)) refl)
+            let u = way_of H e l.0 l.1 (begin_heard H e (place H e.conn) there.sets there.line it.begin) in
+            ap (λ k. wanted k (pool H)) (it.own ∙ sym u.own) ∙ lent_wants_none H e.conn e.tenure u.owner l.0 u.lent)
       ];
-  told = λ n own begun u.
+  told = λ n begun u.
       elim (heard_tx H e n) [
         | inl same ↦
             (let were : is_begun H n ≡ true = ap (λ o. is_some o) (sym same) ∙ begun in
-            ap (λ r. is_some r.decided) (other_heard H e n (λ number. still H e l.0 l.1 b (ap (λ j. asks (work H j)) (sym number) ∙ own) (ap (is_begun H) (sym number) ∙ were))) ∙ b.told n own were u)
+            ap (λ r. is_some r.decided) (other_heard H e n (λ number. still H e l.0 l.1 b (ap (is_begun H) (sym number) ∙ were))) ∙ b.told n were u)
         | inr it ↦
             (let there = heard_there H e l.1 in
-            let started = begin_heard H e (place H e.conn) there.sets there.line it.begin in
-            let begin = starts_own (work H e.call_no) (ap (λ j. asks (work H j)) (sym it.own) ∙ own) started in
-            ap (λ k. is_some (decided (Heard e ∷ H) k)) it.own ∙ told_heard H e l.0 begin it.begin it.done)
+            ap (λ k. is_some (decided (Heard e ∷ H) k)) it.own ∙ told_heard H e l.0 (begin_heard H e (place H e.conn) there.sets there.line it.begin) it.begin it.done)
       ];
 }
-  where
-    -- A call that has begun a transaction wants no connection.
-    unwanting : starts (work H e.call_no) ≡ true → (b : Bool) → asks (work H e.call_no) ≡ b → wanted e.call_no (pool H) ≡ 0
-    unwanting started true own =
-        let u = way_of H e l.0 l.1 (starts_own (work H e.call_no) own started) in
-        ap (λ k. wanted k (pool H)) (sym u.own) ∙ lent_wants_none H e.conn e.tenure u.owner l.0 u.lent
-    unwanting started false idle = by (wanted e.call_no (pool H)) refl
-      where
-        by : (k : ℕ) → wanted e.call_no (pool H) ≡ k → wanted e.call_no (pool H) ≡ 0
-        by zero is = is
-        by (suc k) is = let wrong : true ≡ false = sym (wanting_works H e.call_no l.0 (numbered_so H e.call_no started) (omega (arith, is))) ∙ idle in absurd cc
 
 pub beginnings : (H : List Event) → Lawful H → Beginnings H
-beginnings [] l = record { steps = λ c t own is h. absurd cc; began = λ c t own is h. absurd cc; wants = λ n h. absurd cc; told = λ n own h u. absurd cc }
+beginnings [] l = record { steps = λ c t own is h. absurd cc; began = λ c t own is h. absurd cc; wants = λ n h. absurd cc; told = λ n h u. absurd cc }
 beginnings (Heard e ∷ H) l = heard H e l (beginnings H l.0)
 beginnings (e ∷ H) l = quiet H e l refl (beginnings H l.0)

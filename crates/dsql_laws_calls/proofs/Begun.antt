@@ -25,7 +25,7 @@ use Rattle.dsql_laws.specs.history.declared.event.Op.TheVariants as ops
 use Rattle.dsql_laws.specs.history.declared.work.Work.{Work}
 use Rattle.dsql_laws.specs.history.declared.work.Work.TheVariants as works_of
 use Rattle.dsql_laws.specs.history.Readers.Unfinished.{is_unfinished}
-use Rattle.dsql_laws.specs.history.Readers.Works.{works, work, tx_maker, asks}
+use Rattle.dsql_laws.specs.history.Readers.Works.{works, work, tx_maker}
 use Rattle.dsql_laws.specs.history.Readers.Pool.{pool, place}
 use Rattle.dsql_laws.specs.history.Readers.Transactions.{ends_as, transactions, tx_by, end_of, is_begun, is_over}
 use Rattle.dsql_laws.specs.history.Rules.Moves.{hears_in}
@@ -33,28 +33,27 @@ use Rattle.dsql_laws.specs.history.Rules.Line.{is_due_at, parts, may_come, sends
 use Rattle.dsql_laws.specs.history.Legal.{Lawful}
 use Rattle.dsql_laws_calls.proofs.Works.{is_look, work_stays}
 use Rattle.dsql_laws_calls.proofs.Looks.{heard_there}
-use Rattle.dsql_laws_calls.proofs.Plain.{begins, starts, starts_own}
+use Rattle.dsql_laws_calls.proofs.Plain.{begins}
 use Rattle.dsql_laws_calls.proofs.Makers.{begin_due_now}
 
-starts_no_look : (it : Work) → starts it ≡ true → is_look it ≡ false
-starts_no_look (works_of.Begin label level read_only) h = refl
-starts_no_look (works_of.BeginOn pin label level read_only) h = refl
-starts_no_look it h = absurd cc
+begins_no_look : (it : Work) → begins it ≡ true → is_look it ≡ false
+begins_no_look (works_of.Begin label level read_only) h = refl
+begins_no_look it h = absurd cc
 
-pub still_starts : (H : List Event) (e : Event) (n : ℕ) → starts (work H n) ≡ true → starts (work (e ∷ H) n) ≡ true
-still_starts H e n h = ap starts (work_stays H e n (starts_no_look (work H n) h)) ∙ h
+pub still_begins : (H : List Event) (e : Event) (n : ℕ) → begins (work H n) ≡ true → begins (work (e ∷ H) n) ≡ true
+still_begins H e n h = ap begins (work_stays H e n (begins_no_look (work H n) h)) ∙ h
 
 -- A Begin is a driver call of a call that begins a transaction.
-pub begin_comes : (H : List Event) (e : Entry) → may_come H e ≡ true → is_begin e.call ≡ true → starts (work H e.call_no) ≡ true
+pub begin_comes : (H : List Event) (e : Entry) → may_come H e ≡ true → is_begin e.call ≡ true → begins (work H e.call_no) ≡ true
 begin_comes [] e h is = absurd cc
 begin_comes (last ∷ H) e h is = by (λ may. begin_comes H e may is) (or_cases (is_due_at (last ∷ H) (place (last ∷ H) e.conn) e) (not (parts last e) && may_come H e) h)
   where
-    by : (may_come H e ≡ true → starts (work H e.call_no) ≡ true) → (is_due_at (last ∷ H) (place (last ∷ H) e.conn) e ≡ true) ⊎ ((not (parts last e) && may_come H e) ≡ true)
-        → starts (work (last ∷ H) e.call_no) ≡ true
+    by : (may_come H e ≡ true → begins (work H e.call_no) ≡ true) → (is_due_at (last ∷ H) (place (last ∷ H) e.conn) e ≡ true) ⊎ ((not (parts last e) && may_come H e) ≡ true)
+        → begins (work (last ∷ H) e.call_no) ≡ true
     by earlier (inl now) = begin_due_now (last ∷ H) (place (last ∷ H) e.conn) e now is
-    by earlier (inr could) = let b = both (not (parts last e)) (may_come H e) could in still_starts H last e.call_no (earlier b.1)
+    by earlier (inr could) = let b = both (not (parts last e)) (may_come H e) could in still_begins H last e.call_no (earlier b.1)
 
-pub begin_heard : (H : List Event) (e : Entry) (at : Option Place) → hears_in (pool H) at e ≡ true → sends_from H at e ≡ true → is_begin e.call ≡ true → starts (work H e.call_no) ≡ true
+pub begin_heard : (H : List Event) (e : Entry) (at : Option Place) → hears_in (pool H) at e ≡ true → sends_from H at e ≡ true → is_begin e.call ≡ true → begins (work H e.call_no) ≡ true
 begin_heard H e (Some (Lent t o)) sets line is = begin_comes H e line is
 begin_heard H e (Some (Opening w)) sets line is = let a = both (is_connect e.call) _ sets in absurd (other e.call a.0 is)
   where
@@ -152,24 +151,20 @@ as_begun f None = refl
 as_begun f (Some x) = refl
 
 -- A call that has begun a transaction is a begin.
-pub begun_starts : (H : List Event) (n : ℕ) → Lawful H → is_begun H n ≡ true → starts (work H n) ≡ true
-begun_starts [] n l h = absurd cc
-begun_starts (Entered client m op ∷ H) n l h = still_starts H (Entered client m op) n (by (begun_starts H n l.0) (entered_tx H client m op n))
+pub begun_begins : (H : List Event) (n : ℕ) → Lawful H → is_begun H n ≡ true → begins (work H n) ≡ true
+begun_begins [] n l h = absurd cc
+begun_begins (Entered client m op ∷ H) n l h = still_begins H (Entered client m op) n (by (begun_begins H n l.0) (entered_tx H client m op n))
   where
-    by : (is_begun H n ≡ true → starts (work H n) ≡ true) → (tx_by (Entered client m op ∷ H) n ≡ tx_by H n) ⊎ EndsIt H n (tx_by (Entered client m op ∷ H) n) → starts (work H n) ≡ true
+    by : (is_begun H n ≡ true → begins (work H n) ≡ true) → (tx_by (Entered client m op ∷ H) n ≡ tx_by H n) ⊎ EndsIt H n (tx_by (Entered client m op ∷ H) n) → begins (work H n) ≡ true
     by rest (inl same) = rest (ap is_some (sym same) ∙ h)
     by rest (inr it) = rest (sym (as_begun (ended_by it.by) (tx_by H n)) ∙ ap is_some (sym it.so) ∙ h)
-begun_starts (Heard e ∷ H) n l h = by (begun_starts H n l.0) (heard_tx H e n)
+begun_begins (Heard e ∷ H) n l h = by (begun_begins H n l.0) (heard_tx H e n)
   where
-    by : (is_begun H n ≡ true → starts (work H n) ≡ true) → (tx_by (Heard e ∷ H) n ≡ tx_by H n) ⊎ BeginsIt H e n (tx_by (Heard e ∷ H) n) → starts (work H n) ≡ true
+    by : (is_begun H n ≡ true → begins (work H n) ≡ true) → (tx_by (Heard e ∷ H) n ≡ tx_by H n) ⊎ BeginsIt H e n (tx_by (Heard e ∷ H) n) → begins (work H n) ≡ true
     by rest (inl same) = rest (ap is_some (sym same) ∙ h)
-    by rest (inr it) = let there = heard_there H e l.1 in ap (λ k. starts (work H k)) it.own ∙ begin_heard H e (place H e.conn) there.sets there.line it.begin
-begun_starts (Ended ∷ H) n l h = begun_starts H n l.0 (sym (as_begun (ended_by tx_ends.EndOfRun) (tx_by H n)) ∙ ap is_some (sym (ended_tx H n)) ∙ h)
-begun_starts (_ ∷ H) n l h = begun_starts H n l.0 h
-
--- Such a call that asks for a connection begins its transaction there.
-pub begun_begins : (H : List Event) (n : ℕ) → Lawful H → asks (work H n) ≡ true → is_begun H n ≡ true → begins (work H n) ≡ true
-begun_begins H n l own h = starts_own (work H n) own (begun_starts H n l h)
+    by rest (inr it) = let there = heard_there H e l.1 in ap (λ k. begins (work H k)) it.own ∙ begin_heard H e (place H e.conn) there.sets there.line it.begin
+begun_begins (Ended ∷ H) n l h = begun_begins H n l.0 (sym (as_begun (ended_by tx_ends.EndOfRun) (tx_by H n)) ∙ ap is_some (sym (ended_tx H n)) ∙ h)
+begun_begins (_ ∷ H) n l h = begun_begins H n l.0 h
 
 -- A transaction that was begun stays begun, and one that is over stays over.
 

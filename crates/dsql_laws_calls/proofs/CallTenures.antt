@@ -27,14 +27,15 @@ use Rattle.dsql_laws.specs.history.declared.work.Work.{Work}
 use Rattle.dsql_laws.specs.history.declared.work.Task.TheVariants as tasks
 use Rattle.dsql_laws.specs.history.declared.work.Work.TheVariants as works_of
 use Rattle.dsql_laws.specs.history.Readers.Course.{caps}
-use Rattle.dsql_laws.specs.history.Readers.Works.{work, scope, asks, owner_as}
+use Rattle.dsql_laws.specs.history.Readers.Works.{work, scope, asks}
 use Rattle.dsql_laws.specs.history.Readers.Journals.{heard_in}
 use Rattle.dsql_laws.specs.history.Readers.Pool.{place}
 use Rattle.dsql_laws.specs.history.Rules.Sent.{is_reset_due, asked_by, sender, line_for}
 use Rattle.dsql_laws.specs.history.Rules.Line.{is_due}
 use Rattle.dsql_laws.specs.history.Legal.{Lawful}
-use Rattle.dsql_laws_calls.proofs.Owners.{lent_asks, owner_is_of}
-use Rattle.dsql_laws_calls.proofs.Plain.{is_plain}
+use Rattle.dsql_laws_calls.proofs.Owners.{lent_asks}
+use Rattle.dsql_laws_calls.proofs.Plain.{is_plain, begins}
+use Rattle.dsql_laws_calls.proofs.Beginnings.{begin_owner}
 use Rattle.dsql_laws.specs.history.Readers.Lines.{line_among, line_in}
 use Rattle.dsql_laws_calls.proofs.Lines.{line_there}
 
@@ -44,13 +45,17 @@ call_line H c t own w = line_after (caps H) (is_reset_due H c) (asked_by H (numb
 
 pub line_of_call : (H : List Event) (c t : ℕ) (own : Owner) (w : Wish) → Lawful H → place H c ≡ Some (Lent t own) → is_call own ≡ true → line_there H c t own (number_of own) w ≡ call_line H c t own w
 line_of_call H c t own w l is call =
-    by (work H (number_of own)) (lent_asks H c t own l is) own_call
+    by (work H (number_of own)) (lent_asks H c t own l is) not_begin
     ∙ ap (λ b. line_after (caps H) (is_reset_due H c) (asked_by H (number_of own)) w (cond b (heard_in H c t) (line_among (number_of own) (heard_in H c t)))) call
   where
-    own_call : is_call (owner_as (work H (number_of own)) (number_of own)) ≡ true
-    own_call = let o = owner_is_of H c t own l is in sym (ap is_call o.1) ∙ call
+    not_begin : begins (work H (number_of own)) ≡ false
+    not_begin = at (begins (work H (number_of own))) refl
+      where
+        at : (b : Bool) → begins (work H (number_of own)) ≡ b → b ≡ false
+        at true its = let wrong : true ≡ false = sym call ∙ begin_owner H c t own l is its in absurd cc
+        at false its = refl
 
-    by : (v : Work) → asks v ≡ true → is_call (owner_as v (number_of own)) ≡ true → line_for v (scope v) (sender H (number_of own) c w) (line_in own (number_of own) (heard_in H c t)) ≡ line_after (caps H) (is_reset_due H c) (asked_by H (number_of own)) w (line_in own (number_of own) (heard_in H c t))
+    by : (v : Work) → asks v ≡ true → begins v ≡ false → line_for v (scope v) (sender H (number_of own) c w) (line_in own (number_of own) (heard_in H c t)) ≡ line_after (caps H) (is_reset_due H c) (asked_by H (number_of own)) w (line_in own (number_of own) (heard_in H c t))
     by (works_of.Statement Db tasks.Execute) h k = refl
     by (works_of.Statement Db (tasks.ReadOne dests)) h k = refl
     by (works_of.Statement Db (tasks.HandOut label)) h k = refl

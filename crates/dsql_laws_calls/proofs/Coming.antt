@@ -26,10 +26,10 @@ comes_on H last l s f e h =
 
 heard_facts : (H : List Event) (e : Entry) → Lawful (Heard e ∷ H) → Sound H → Facts (Heard e ∷ H)
 heard_facts H e l s = record {
-  ends = λ c t own is off on.
+  ends = λ c t own is on.
       elim (same_or_not e.conn c) [
-        | inl here ↦ ends_heard H e l s c t own is here off on
-        | inr apart ↦ ends_same H (Heard e) s c t own is (heard_other H e c apart) off on
+        | inl here ↦ ends_heard H e l s c t own is here on
+        | inr apart ↦ ends_same H (Heard e) s c t own is (heard_other H e c apart) on
       ];
   going = λ c t own is m inner u sent.
       elim (same_or_not e.conn c) [
@@ -47,7 +47,7 @@ quiet : (H : List Event) (e : Event) → Lawful (e ∷ H) → is_answer e ≡ fa
 quiet H e l none s = let f = quiet_facts H e l none s in record { facts = f; coming = comes_on H e l s f }
 
 start : Facts []
-start = record { ends = λ c t own is off on. absurd cc; going = λ c t own is m inner u sent. absurd cc; made = λ c t own is call. absurd cc }
+start = record { ends = λ c t own is on. absurd cc; going = λ c t own is m inner u sent. absurd cc; made = λ c t own is call. absurd cc }
 
 pub sound : (H : List Event) → Lawful H → Sound H
 sound [] l = record { facts = start; coming = λ e h. absurd cc }

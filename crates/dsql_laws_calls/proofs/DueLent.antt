@@ -10,24 +10,22 @@ use Rattle.dsql_laws.specs.pool.Places.{is_lent}
 use Rattle.dsql_laws.proofs.Tests.{other_number}
 use Rattle.dsql_laws.specs.history.declared.event.Event.{Event}
 use Rattle.dsql_laws.specs.history.declared.work.Scope.{Scope}
-use Rattle.dsql_laws.specs.history.declared.work.Scope.TheVariants.{Db, Held, Pinned, Within}
+use Rattle.dsql_laws.specs.history.declared.work.Scope.TheVariants.{Db, Held}
 use Rattle.dsql_laws.specs.history.declared.work.Work.{Work}
-use Rattle.dsql_laws.specs.history.declared.work.Work.TheVariants.{End, EndWithin, Unpin, Fetch, Close, Look}
+use Rattle.dsql_laws.specs.history.declared.work.Work.TheVariants.{Statement, Begin, End, Ping, Fetch, Close, Look}
 use Rattle.dsql_laws.specs.history.Readers.Calls.{site}
 use Rattle.dsql_laws.specs.history.Readers.Pool.{place, home}
 use Rattle.dsql_laws.specs.history.Readers.Transactions.{tx_ender}
 use Rattle.dsql_laws.specs.history.Readers.Unfinished.{is_unfinished}
-use Rattle.dsql_laws.specs.history.Readers.Works.{work, scope, borrower}
-use Rattle.dsql_laws.specs.history.Readers.Pins.{pin_ender}
-use Rattle.dsql_laws.specs.history.Rules.Pinned.{unpinning}
-use Rattle.dsql_laws.specs.history.Rules.Ending.{ending, ending_within}
-use Rattle.dsql_laws.specs.history.Rules.Line.{due_inside, due_in, due_for, sends_in, sends_on}
+use Rattle.dsql_laws.specs.history.Readers.Works.{work, borrower}
+use Rattle.dsql_laws.specs.history.Rules.Ending.{ending}
+use Rattle.dsql_laws.specs.history.Rules.Line.{due_inside, due_in, due_for, sends_in}
 use Rattle.dsql_laws.specs.history.Rules.Sent.{line_of, wish, sent_for}
 use Rattle.dsql_laws_calls.specs.Chores.{is_lent_for}
 use Rattle.dsql_laws_calls.proofs.Cases.{true_false}
 use Rattle.dsql_laws_calls.proofs.DueWay.{borrow_same}
 use Rattle.dsql_laws_calls.proofs.Makers.{rows_hand_out, sent_made}
-use Rattle.dsql_laws_calls.proofs.Tidying.{ending_lent, lent_where_due, within_lent, unpinning_lent}
+use Rattle.dsql_laws_calls.proofs.Tidying.{ending_lent, lent_where_due}
 
 pub lent_out : (n : ℕ) (at : Option Place) → is_lent_for n at ≡ true → is_lent at ≡ true
 lent_out n (Some (Lent t owner)) h = refl
@@ -51,19 +49,13 @@ due_lent_for H m some h = started (is_unfinished H m) h
     rows : (k : ℕ) → (work H m ≡ Fetch k) ⊎ (work H m ≡ Close k) → is_some (sent_for H k (wish H m k)) ≡ true → is_lent_for (borrower H m) (place H (site H m)) ≡ true
     rows k which x = of (borrower H k) (borrow_same H m k which (rows_hand_out H k (sent_made H m k (other_number m 0 some) x))) (sent_lent H k (wish H m k) x)
 
-    sends : (b : Bool) → is_some (cond b (line_of H m wishes.Nothing) None) ≡ true → is_lent_for (borrower H m) (place H (site H m)) ≡ true
-    sends true y = own y
-    sends false y = absurd cc
-
     inner : (s : Scope) → is_some (due_inside H m s) ≡ true → is_lent_for (borrower H m) (place H (site H m)) ≡ true
     inner Db x = own x
     inner (Held k) x = sends (sends_in H m k) x
-    inner (Pinned p) x = sends (sends_on H m p) x
-    inner (Within p k) x = sends (sends_in H m k) x
-
-    so : (b : Bool) (d : Option DriverCall) → is_some (cond b d None) ≡ true → is_some d ≡ true
-    so true d y = y
-    so false d y = absurd cc
+      where
+        sends : (b : Bool) → is_some (cond b (line_of H m wishes.Nothing) None) ≡ true → is_lent_for (borrower H m) (place H (site H m)) ≡ true
+        sends true y = own y
+        sends false y = absurd cc
 
     ends : (k : ℕ) (b : Bool) → borrower H m ≡ k → is_some (cond b (ending H k) None) ≡ true → is_lent_for (borrower H m) (place H (site H m)) ≡ true
     ends k true uses x = of k uses (ending_lent H k x)
@@ -73,10 +65,10 @@ due_lent_for H m some h = started (is_unfinished H m) h
     by (Fetch k) is x = rows k (inl is) x
     by (Close k) is x = rows k (inr is) x
     by (End k) is x = ends k (tx_ender H k == m) (rw is refl) x
-    by (EndWithin p k) is x = of p (rw is refl) (within_lent H p k (so (tx_ender H k == m) (ending_within H p k) x))
-    by (Unpin p) is x = of p (rw is refl) (unpinning_lent H p (so (pin_ender H p == m) (unpinning H p) x))
     by Look is x = absurd cc
-    by w is x = inner (scope w) x
+    by (Statement s task) is x = inner s x
+    by (Begin label level read_only) is x = own x
+    by Ping is x = own x
 
     started : (b : Bool) → is_some (cond b (due_in H m (work H m)) None) ≡ true → is_lent_for (borrower H m) (place H (site H m)) ≡ true
     started true x = by (work H m) refl x

@@ -6,29 +6,20 @@ use Rattle.dsql_laws.specs.course.declared.course.Wish.TheVariants as wishes
 use Rattle.dsql_laws.specs.course.Made.{Exchange, own_cursor}
 use Rattle.dsql_laws.specs.journal.declared.entry.Entry.{Entry}
 use Rattle.dsql_laws.specs.journal.declared.entry.Owner.{Owner}
-use Rattle.dsql_laws.specs.journal.Kinds.{is_call, is_pin, number_of}
-use Rattle.dsql_laws.specs.journal.declared.entry.Owner.TheVariants as owners
-use Rattle.dsql_laws.specs.driver.declared.call.DriverCall.{DriverCall}
-use Rattle.dsql_laws.specs.driver.declared.call.Level.{Level}
-use Rattle.dsql_laws.specs.course.Made.{or_else}
-use Rattle.std.specs.Option.{option_map}
-use Rattle.dsql_laws_calls.specs.Chores.{is_lent_for}
-use Rattle.dsql_laws_calls.proofs.Scopes.{pin_of, pin_owner}
-use Rattle.dsql_laws_calls.proofs.Tidying.{lent_where_due, within_lent, unpinning_lent}
+use Rattle.dsql_laws.specs.journal.Kinds.{is_call, number_of}
 use Rattle.dsql_laws.specs.journal.Readers.{went_bad}
 use Rattle.dsql_laws.specs.pool.declared.conn.Place.TheVariants.{Lent}
 use Rattle.dsql_laws.specs.rows.declared.rows.Rows.{Rows}
 use Rattle.dsql_laws.specs.works.Line as plain
 use Rattle.dsql_laws.specs.works.Line.{handed}
-use Rattle.dsql_laws.specs.history.Readers.HandedOut.{rows_by, are_live, are_over, ender}
+use Rattle.dsql_laws.specs.history.Readers.HandedOut.{over, rows_by, are_live, are_over, ender}
 use Rattle.dsql_laws.specs.history.Rules.Wishes.{wish_as}
 use Rattle.dsql_laws.proofs.Tests.{both, same_number, same_itself}
 use Rattle.dsql_laws.specs.history.declared.event.Event.{Event}
-use Rattle.dsql_laws.specs.history.declared.work.Scope.TheVariants.{Db, Held, Pinned, Within}
+use Rattle.dsql_laws.specs.history.declared.work.Scope.TheVariants.{Db, Held}
 use Rattle.dsql_laws.specs.history.declared.work.Work.{Work}
-use Rattle.dsql_laws.specs.history.declared.work.Task.{Task}
 use Rattle.dsql_laws.specs.history.declared.work.Task.TheVariants.{HandOut}
-use Rattle.dsql_laws.specs.history.declared.work.Work.TheVariants.{Statement, Begin, BeginOn, Pin, Unpin, Ping, PingOn, Fetch, Close, End, EndWithin, Look}
+use Rattle.dsql_laws.specs.history.declared.work.Work.TheVariants.{Statement, Begin, Ping, Fetch, Close, End, Look}
 use Rattle.dsql_laws.specs.history.Readers.Course.{caps}
 use Rattle.dsql_laws.specs.history.Readers.Unfinished.{is_unfinished}
 use Rattle.dsql_laws.specs.history.Readers.Works.{work, scope, asks, borrower, hands_out_in, is_in, is_fetch, aim_of, owner_as}
@@ -38,10 +29,8 @@ use Rattle.dsql_laws.specs.history.Readers.Pool.{place, home}
 use Rattle.dsql_laws.specs.history.Readers.Transactions.{is_begun, is_over, goes_on, tx_ender}
 use Rattle.dsql_laws.specs.history.Readers.Calls.{decided, site, has_begun_to_send}
 use Rattle.dsql_laws.specs.history.Rules.Sent.{is_reset_due, asked_by, inner_after, sender, line_for, line_of, closes, wish, sent_for, close_due}
-use Rattle.dsql_laws.specs.history.Rules.Ending.{ending, ending_within}
-use Rattle.dsql_laws.specs.history.Rules.Line.{due_in, due_for, tidying, tidying_pin, tidying_for, sends_in, sends_on, is_due, is_due_at}
-use Rattle.dsql_laws.specs.history.Readers.Pins.{pin_ender}
-use Rattle.dsql_laws.specs.history.Rules.Pinned.{unpinning}
+use Rattle.dsql_laws.specs.history.Rules.Ending.{ending}
+use Rattle.dsql_laws.specs.history.Rules.Line.{due_in, due_for, tidying, sends_in, is_due, is_due_at}
 use Rattle.dsql_laws.specs.history.Legal.{Lawful}
 use Rattle.dsql_laws_calls.proofs.Owners.{lent_asks, owner_is_of}
 use Rattle.dsql_laws_work.proofs.Rows.{not_true}
@@ -53,7 +42,7 @@ use Rattle.dsql_laws_calls.proofs.Plain.{no_ending_due, with_ends}
 use Rattle.dsql_laws_calls.proofs.Lines.{line_there, line_here, closes_too}
 use Rattle.dsql_laws_calls.proofs.Own.{some_due, asks_own, own_now, DueNow, due_now, DueOf, due_of}
 use Rattle.dsql_laws_calls.proofs.Inside.{inside, inside_uses, number_not, due_within, live_goes}
-use Rattle.dsql_laws_calls.proofs.Beginnings.{begin_owner, begin_no_pin}
+use Rattle.dsql_laws_calls.proofs.Beginnings.{begin_owner}
 use Rattle.dsql_laws_calls.proofs.Quiet.{quiet_sends_none}
 use Rattle.dsql_laws_calls.proofs.LineParts.{hands_of}
 use Rattle.dsql_laws_calls.proofs.HandedRows.{handed_made, rows_begun}
@@ -74,11 +63,7 @@ on_rows : {A : Type 0} (w : Work) (j : ℕ) → w ≡ Look → (w ≡ Fetch j) �
 on_rows w j look (inl is) = let wrong : Fetch j ≡ Look = sym is ∙ look in absurd cc
 on_rows w j look (inr is) = let wrong : Close j ≡ Look = sym is ∙ look in absurd cc
 
-pub call_no_pin : (o : Owner) → is_call o ≡ true → is_pin o ≡ false
-call_no_pin (owners.Call n) h = refl
-call_no_pin o h = absurd cc
-
-layer_way : (H : List Event) (e : Entry) → Lawful H → Facts H → (d : DueNow H e) → (e.call_no == 0) ≡ true → (is_pin d.owner ≡ false → Why H e.conn e.tenure d.owner e.call_no) → (is_pin d.owner ≡ false → is_ending e.call ≡ true → is_over H (number_of d.owner) ≡ true)
+layer_way : (H : List Event) (e : Entry) → Lawful H → Facts H → (d : DueNow H e) → (e.call_no == 0) ≡ true → Why H e.conn e.tenure d.owner e.call_no → (is_ending e.call ≡ true → is_over H (number_of d.owner) ≡ true)
     → (is_call d.owner ≡ true → (w : Wish) × (is_due (call_line H e.conn e.tenure d.owner w) e.call ≡ true)) → UnderWay H e
 layer_way H e l f d layer why ending line = record {
   owner = d.owner;
@@ -93,8 +78,8 @@ layer_way H e l f d layer why ending line = record {
   turn = turn_of H e l d;
 }
 
-tidied_due : (H : List Event) (e : Entry) → Lawful H → Facts H → (d : DueNow H e) → (e.call_no == 0) ≡ true → is_due (tidying H (number_of d.owner)) e.call ≡ true → UnderWay H e
-tidied_due H e l f d layer due = by (is_begun H (number_of d.owner)) refl due
+layer_due : (H : List Event) (e : Entry) → Lawful H → Facts H → (d : DueNow H e) → (e.call_no == 0) ≡ true → is_due (tidying H (number_of d.owner)) e.call ≡ true → UnderWay H e
+layer_due H e l f d layer due = by (is_begun H (number_of d.owner)) refl due
   where
     n : ℕ
     n = number_of d.owner
@@ -105,16 +90,16 @@ tidied_due H e l f d layer due = by (is_begun H (number_of d.owner)) refl due
     ended : (b : Bool) → is_begun H (number_of d.owner) ≡ true → is_due (cond b (ending H (number_of d.owner)) None) e.call ≡ true → UnderWay H e
     ended true begun x =
         let some = some_due (ending H (number_of d.owner)) e.call x in
-        layer_way H e l f d layer (λ off. inr (inr (record { begun = begun; left = left_of H e.conn e.tenure d.owner l d.lent some }))) (λ off h. ending_over H (number_of d.owner) some)
-        (λ call. clash (sym call ∙ begin_owner H e.conn e.tenure d.owner l d.lent (begun_begins H (number_of d.owner) l (lent_asks H e.conn e.tenure d.owner l d.lent) begun)))
+        layer_way H e l f d layer (inr (inr (record { begun = begun; left = left_of H e.conn e.tenure d.owner l d.lent some }))) (λ h. ending_over H (number_of d.owner) some)
+        (λ call. clash (sym call ∙ begin_owner H e.conn e.tenure d.owner l d.lent (begun_begins H (number_of d.owner) l begun)))
     ended false begun x = absurd cc
 
     over_rows : (b : Bool) → are_over H (number_of d.owner) ≡ b → is_due (cond b (line_of H (number_of d.owner) wishes.Close) None) e.call ≡ true → UnderWay H e
     over_rows true gone x =
         let there = line_here H e.conn e.tenure d.owner (number_of d.owner) wishes.Close l d.lent own in
         let here : is_due (line_there H e.conn e.tenure d.owner (number_of d.owner) wishes.Close) e.call ≡ true = ap (λ o. is_due o e.call) (sym there) ∙ x in
-        layer_way H e l f d layer (λ off. inr (inl (record { some = over_some (rows_by H (number_of d.owner)) gone; sends = some_due (line_there H e.conn e.tenure d.owner (number_of d.owner) wishes.Close) e.call here })))
-        (λ off h. clash (sym h ∙ no_ending H (number_of d.owner) wishes.Close e.call x))
+        layer_way H e l f d layer (inr (inl (record { some = over_some (rows_by H (number_of d.owner)) gone; sends = some_due (line_there H e.conn e.tenure d.owner (number_of d.owner) wishes.Close) e.call here })))
+        (λ h. clash (sym h ∙ no_ending H (number_of d.owner) wishes.Close e.call x))
         (λ call. (wishes.Close, ap (λ o. is_due o e.call) (sym (line_of_call H e.conn e.tenure d.owner wishes.Close l d.lent call)) ∙ here))
     over_rows false gone x = absurd cc
 
@@ -125,20 +110,6 @@ tidied_due H e l f d layer due = by (is_begun H (number_of d.owner)) refl due
     by : (b : Bool) → is_begun H (number_of d.owner) ≡ b → is_due (cond b (cond (tx_ender H (number_of d.owner) == 0) (ending H (number_of d.owner)) None) (cond (ender H (number_of d.owner) == 0) (close_due H (number_of d.owner)) None)) e.call ≡ true → UnderWay H e
     by true begun x = ended (tx_ender H (number_of d.owner) == 0) begun x
     by false begun x = closed (ender H (number_of d.owner) == 0) x
-
--- On a pin the layer may tidy up what was made there.
-layer_due : (H : List Event) (e : Entry) → Lawful H → Facts H → (d : DueNow H e) → (e.call_no == 0) ≡ true → is_due (tidying_for H d.owner) e.call ≡ true → UnderWay H e
-layer_due H e l f d layer due = by (tidying H (number_of d.owner)) refl due
-  where
-    on_pin : (o : Owner) → is_due (option_map (λ it. it.call) (tidying_pin H o)) e.call ≡ true → is_pin o ≡ true
-    on_pin (owners.Pin p) x = refl
-    on_pin o x = absurd cc
-
-    by : (o : Option DriverCall) → tidying H (number_of d.owner) ≡ o → is_due (or_else o (option_map (λ it. it.call) (tidying_pin H d.owner))) e.call ≡ true → UnderWay H e
-    by (Some q) is x = tidied_due H e l f d layer (ap (λ o. is_due o e.call) is ∙ x)
-    by None is x =
-        let pin = on_pin d.owner x in
-        layer_way H e l f d layer (λ off. clash (sym pin ∙ off)) (λ off. clash (sym pin ∙ off)) (λ call. clash (sym pin ∙ call_no_pin d.owner call))
 
 -- The line of a call in a transaction is `inner_after` of its own entries.
 pub inner_is : (H : List Event) (c t : ℕ) (own : Owner) (m : ℕ) (w : Wish) (k : ℕ) → is_call own ≡ false → scope (work H m) ≡ Held k
@@ -168,8 +139,8 @@ own_due H e l d some asking h u =
       borrowed = λ k. asks_own H e.call_no asking ∙ sym own;
       unfinished = λ k. u;
       rowed = λ j which. asks_rowless (work H e.call_no) j asking which;
-      why = λ off. inl (record { itself = own; unfinished = ap (is_unfinished H) own ∙ u; sends = some_due (line_there H e.conn e.tenure d.owner (number_of d.owner) wishes.Nothing) e.call due });
-      ending = λ off x. clash (sym x ∙ no_ending_due (line_there H e.conn e.tenure d.owner (number_of d.owner) wishes.Nothing) e.call (with_ends (sender H (number_of d.owner) e.conn wishes.Nothing) (line_in d.owner (number_of d.owner) (heard_in H e.conn e.tenure))) due);
+      why = inl (record { itself = own; unfinished = ap (is_unfinished H) own ∙ u; sends = some_due (line_there H e.conn e.tenure d.owner (number_of d.owner) wishes.Nothing) e.call due });
+      ending = λ x. clash (sym x ∙ no_ending_due (line_there H e.conn e.tenure d.owner (number_of d.owner) wishes.Nothing) e.call (with_ends (sender H (number_of d.owner) e.conn wishes.Nothing) (line_in d.owner (number_of d.owner) (heard_in H e.conn e.tenure))) due);
       within = λ s. asks_outside (work H e.call_no) (number_of d.owner) asking s;
       line = λ call. (wishes.Nothing, ap (λ o. is_due o e.call) (sym (line_of_call H e.conn e.tenure d.owner wishes.Nothing l d.lent call)) ∙ due);
       turn = turn_of H e l d;
@@ -185,7 +156,6 @@ own_due H e l d some asking h u =
     asks_outside : {A : Type 0} (w : Work) (k : ℕ) → asks w ≡ true → scope w ≡ Held k → A
     asks_outside (Statement Db task) k a s = absurd cc
     asks_outside (Begin label level read_only) k a s = absurd cc
-    asks_outside (Pin label) k a s = absurd cc
     asks_outside Ping k a s = absurd cc
     asks_outside w k a s = absurd cc
 
@@ -235,10 +205,10 @@ inside_due H e k l f d some s o =
           borrowed = λ x. at;
           unfinished = λ x. o.unfinished;
           rowed = λ j which. rows_outside H e.call_no j (number_of d.owner) which inner;
-          why = λ off. inr (inr (record { begun = begun; left = left }));
-          ending = λ off x. clash (sym x ∙ no_ending H e.call_no wishes.Nothing e.call due);
+          why = inr (inr (record { begun = begun; left = left }));
+          ending = λ x. clash (sym x ∙ no_ending H e.call_no wishes.Nothing e.call due);
           within = λ x. record { due = there; left = within };
-          line = λ call. clash (sym call ∙ begin_owner H e.conn e.tenure d.owner l d.lent (begun_begins H (number_of d.owner) l (lent_asks H e.conn e.tenure d.owner l d.lent) begun));
+          line = λ call. clash (sym call ∙ begin_owner H e.conn e.tenure d.owner l d.lent (begun_begins H (number_of d.owner) l begun));
           turn = turn_of H e l d;
         }
 
@@ -280,19 +250,16 @@ inside_due H e k l f d some s o =
 
         -- If the call has nothing more to send, nothing is due.
         quiet_line : is_some (line_there H e.conn e.tenure d.owner e.call_no wishes.Nothing) ≡ is_some (inner_after (caps H) (went_bad (journal H e.conn)) (asked_by H e.call_no) wishes.Nothing (line_among e.call_no (heard_in H e.conn e.tenure)))
-        quiet_line = inner_line H e.conn e.tenure d.owner e.call_no wishes.Nothing (number_of d.owner) (begin_owner H e.conn e.tenure d.owner l d.lent (begun_begins H (number_of d.owner) l (lent_asks H e.conn e.tenure d.owner l d.lent) begun)) inner
+        quiet_line = inner_line H e.conn e.tenure d.owner e.call_no wishes.Nothing (number_of d.owner) (begin_owner H e.conn e.tenure d.owner l d.lent (begun_begins H (number_of d.owner) l begun)) inner
 
         from : is_over H (number_of d.owner) ≡ true → Going H e.conn e.tenure e.call_no → UnderWay H e
         from gone (inl h) = handed gone h
         from gone (inr (inl n)) = made (inl n.none) (inl n.none)
         from gone (inr (inr q)) = clash (sym some_there ∙ (quiet_line ∙ quiet_sends_none (caps H) (went_bad (journal H e.conn)) (asked_by H e.call_no) wishes.Nothing (line_among e.call_no (heard_in H e.conn e.tenure)) q))
 
-        off : is_pin d.owner ≡ false
-        off = begin_no_pin H e.conn e.tenure d.owner l d.lent (begun_begins H (number_of d.owner) l (lent_asks H e.conn e.tenure d.owner l d.lent) begun)
-
         by : (b : Bool) → is_over H (number_of d.owner) ≡ b → UnderWay H e
         by true gone = from gone (f.going e.conn e.tenure d.owner d.lent e.call_no inner o.unfinished (begun_to gone))
-        by false on = let none = f.ends e.conn e.tenure d.owner d.lent off on in made (inl none) (inl none)
+        by false on = let none = f.ends e.conn e.tenure d.owner d.lent on in made (inl none) (inl none)
 
 -- The entry is of a call over rows.
 
@@ -334,7 +301,7 @@ rows_due H e j l f d some which u due = by (closes H e.call_no j) (is_fetch (wor
       unfinished = λ y. u;
       rowed = λ i its. ap (λ x. is_some (rows_by H x)) (same_rows (work H e.call_no) i its which) ∙ rows;
       why = why_of (work H j) refl (rows_hand_out H j rows);
-      ending = λ off y. clash (sym y ∙ no_ending H j w e.call x);
+      ending = λ y. clash (sym y ∙ no_ending H j w e.call x);
       within = λ s. rows_outside H e.call_no j (number_of d.owner) which s;
       line = λ call. (w, line_as (work H j) refl (rows_hand_out H j rows) call);
       turn = turn_of H e l d;
@@ -360,19 +327,14 @@ rows_due H e j l f d some which u due = by (closes H e.call_no j) (is_fetch (wor
         tx_of : (k : ℕ) (label : List ℕ) → work H j ≡ Statement (Held k) (HandOut label) → number_of d.owner ≡ k
         tx_of k label is = number ∙ rw is refl
 
-        on_pin : pin_of (work H j) ≡ borrower H j → {A : Type 0} → is_pin d.owner ≡ false → A
-        on_pin uses off = clash (sym (pin_owner H e.conn e.tenure d.owner j l d.lent (uses ∙ sym number)) ∙ off)
-
-        why_of : (v : Work) → work H j ≡ v → hands_out v ≡ true → is_pin d.owner ≡ false → Why H e.conn e.tenure d.owner e.call_no
-        why_of (Statement Db (HandOut label)) is y off =
+        why_of : (v : Work) → work H j ≡ v → hands_out v ≡ true → Why H e.conn e.tenure d.owner e.call_no
+        why_of (Statement Db (HandOut label)) is y =
             inr (inl (record {
               some = ap (λ i. is_some (rows_by H i)) (own_call label is) ∙ rows;
               sends = sends (sym number ∙ own_call label is) (is_own_call label is);
             }))
-        why_of (Statement (Held k) (HandOut label)) is y off = inr (inr (tx k (ap (hands_out_in k) is ∙ same_itself k) (tx_of k label is)))
-        why_of (Statement (Pinned p) (HandOut label)) is y off = on_pin (rw is refl) off
-        why_of (Statement (Within p k) (HandOut label)) is y off = on_pin (rw is refl) off
-        why_of v is y off = absurd cc
+        why_of (Statement (Held k) (HandOut label)) is y = inr (inr (tx k (ap (hands_out_in k) is ∙ same_itself k) (tx_of k label is)))
+        why_of v is y = absurd cc
 
         line_as : (v : Work) → work H j ≡ v → hands_out v ≡ true → is_call d.owner ≡ true → is_due (call_line H e.conn e.tenure d.owner w) e.call ≡ true
         line_as (Statement Db (HandOut label)) is y call =
@@ -380,9 +342,7 @@ rows_due H e j l f d some which u due = by (closes H e.call_no j) (is_fetch (wor
         line_as (Statement (Held k) (HandOut label)) is y call =
             let begun = rows_begun H j k l rows (ap (hands_out_in k) is ∙ same_itself k) in
             let its : is_begun H (number_of d.owner) ≡ true = ap (is_begun H) (tx_of k label is) ∙ begun in
-            clash (sym call ∙ begin_owner H e.conn e.tenure d.owner l d.lent (begun_begins H (number_of d.owner) l (lent_asks H e.conn e.tenure d.owner l d.lent) its))
-        line_as (Statement (Pinned p) (HandOut label)) is y call = on_pin (rw is refl) (call_no_pin d.owner call)
-        line_as (Statement (Within p k) (HandOut label)) is y call = on_pin (rw is refl) (call_no_pin d.owner call)
+            clash (sym call ∙ begin_owner H e.conn e.tenure d.owner l d.lent (begun_begins H (number_of d.owner) l its))
         line_as v is y call = absurd cc
 
     number_at : (w : Wish) → is_due (line_of H j w) e.call ≡ true → number_of d.owner ≡ borrower H j
@@ -428,9 +388,7 @@ rows_due H e j l f d some which u due = by (closes H e.call_no j) (is_fetch (wor
             let goes = live_goes H j k l lives hands in
             let b = both (is_begun H k) (not (is_over H k)) goes in
             let on : is_over H (number_of d.owner) ≡ false = ap (is_over H) its ∙ not_true (is_over H k) b.1 in
-            let begun = ap (is_begun H) its ∙ b.0 in
-            let off = begin_no_pin H e.conn e.tenure d.owner l d.lent (begun_begins H (number_of d.owner) l (lent_asks H e.conn e.tenure d.owner l d.lent) begun) in
-            record { begun = begun; left = inl (f.ends e.conn e.tenure d.owner d.lent off on) }
+            record { begun = ap (is_begun H) its ∙ b.0; left = inl (f.ends e.conn e.tenure d.owner d.lent on) }
 
     by : (a b : Bool) → closes H e.call_no j ≡ a → (is_fetch (work H e.call_no) && (are_live H j && is_none (decided H e.call_no))) ≡ b → is_due (sent_for H j (wish_as a b)) e.call ≡ true → UnderWay H e
     by true b ends fetches x = closing_way ends x
@@ -461,10 +419,10 @@ end_due H e k l d some is u due = by (tx_ender H k == e.call_no) due
           borrowed = λ y. uses ∙ sym number;
           unfinished = λ y. u;
           rowed = λ j which. rowless j which;
-          why = λ off. inr (inr (record { begun = begun; left = left_of H e.conn e.tenure d.owner l d.lent sends }));
-          ending = λ off y. gone;
+          why = inr (inr (record { begun = begun; left = left_of H e.conn e.tenure d.owner l d.lent sends }));
+          ending = λ y. gone;
           within = λ s. outside (number_of d.owner) s;
-          line = λ call. clash (sym call ∙ begin_owner H e.conn e.tenure d.owner l d.lent (begun_begins H (number_of d.owner) l (lent_asks H e.conn e.tenure d.owner l d.lent) begun));
+          line = λ call. clash (sym call ∙ begin_owner H e.conn e.tenure d.owner l d.lent (begun_begins H (number_of d.owner) l begun));
           turn = turn_of H e l d;
         }
       where
@@ -479,99 +437,21 @@ end_due H e k l d some is u due = by (tx_ender H k == e.call_no) due
     by true x = way (some_due (ending H k) e.call x)
     by false x = absurd cc
 
--- The entry is of a call on a pin.
-
--- Is true if the call fetches from rows or closes them.
-abbrev over_rows : Work → Bool
-over_rows (Fetch k) = true
-over_rows (Close k) = true
-over_rows w = false
-
-cond_some : (b : Bool) (d : Option DriverCall) (q : DriverCall) → is_due (cond b d None) q ≡ true → is_some d ≡ true
-cond_some true d q h = some_due d q h
-cond_some false d q h = absurd cc
-
-line_lent : (H : List Event) (m : ℕ) (b : Bool) (q : DriverCall) → is_due (cond b (line_of H m wishes.Nothing) None) q ≡ true → is_lent_for (borrower H m) (place H (site H m)) ≡ true
-line_lent H m b q h = lent_where_due H m wishes.Nothing (site H m) (place H (site H m)) (cond_some b (line_of H m wishes.Nothing) q h)
-
-pinned_due : (H : List Event) (e : Entry) → Lawful H → (d : DueNow H e) → (e.call_no == 0) ≡ false → is_unfinished H e.call_no ≡ true → pin_of (work H e.call_no) ≡ borrower H e.call_no
-    → is_lent_for (borrower H e.call_no) (place H (site H e.call_no)) ≡ true → ((j : ℕ) → (work H e.call_no ≡ Fetch j) ⊎ (work H e.call_no ≡ Close j) → ⊥) → ((k : ℕ) → scope (work H e.call_no) ≡ Held k → ⊥) → UnderWay H e
-pinned_due H e l d some u uses lent no_rows outside = record {
-  owner = d.owner;
-  lent = d.lent;
-  borrowed = λ x. sym number;
-  unfinished = λ x. u;
-  rowed = λ j which. absurd (no_rows j which);
-  why = λ off. clash (sym pin ∙ off);
-  ending = λ off. clash (sym pin ∙ off);
-  within = λ s. absurd (outside (number_of d.owner) s);
-  line = λ call. clash (sym pin ∙ call_no_pin d.owner call);
-  turn = turn_of H e l d;
-}
-  where
-    number : number_of d.owner ≡ borrower H e.call_no
-    number = same_number (number_of d.owner) (borrower H e.call_no) (sym (ap (λ c. is_lent_for (borrower H e.call_no) (place H c)) (d.site some) ∙ ap (is_lent_for (borrower H e.call_no)) d.lent) ∙ lent)
-
-    pin : is_pin d.owner ≡ true
-    pin = pin_owner H e.conn e.tenure d.owner e.call_no l d.lent (uses ∙ sym number)
-
 -- In all of these cases, an entry that is due is under way.
 
 pub due_under_way : (H : List Event) (e : Entry) → Lawful H → Facts H → is_due_at H (place H e.conn) e ≡ true → UnderWay H e
 due_under_way H e l f h = whose (e.call_no == 0) refl (due_now H e h)
   where
-    uses_pinned : {p : ℕ} {task : Task} → work H e.call_no ≡ Statement (Pinned p) task → borrower H e.call_no ≡ p
-    uses_pinned is = rw is refl
-
-    uses_within : {p k : ℕ} {task : Task} → work H e.call_no ≡ Statement (Within p k) task → borrower H e.call_no ≡ p
-    uses_within is = rw is refl
-
-    uses_begin : {p : ℕ} {label : List ℕ} {level : Level} {read_only : Bool} → work H e.call_no ≡ BeginOn p label level read_only → borrower H e.call_no ≡ p
-    uses_begin is = rw is refl
-
-    uses_ping : {p : ℕ} → work H e.call_no ≡ PingOn p → borrower H e.call_no ≡ p
-    uses_ping is = rw is refl
-
-    uses_end : {p k : ℕ} → work H e.call_no ≡ EndWithin p k → borrower H e.call_no ≡ p
-    uses_end is = rw is refl
-
-    uses_unpin : {p : ℕ} → work H e.call_no ≡ Unpin p → borrower H e.call_no ≡ p
-    uses_unpin is = rw is refl
-
-    at_home_of : {p : ℕ} → borrower H e.call_no ≡ p → is_lent_for p (place H (home H p)) ≡ true → is_lent_for (borrower H e.call_no) (place H (site H e.call_no)) ≡ true
-    at_home_of uses x = ap (λ i. is_lent_for i (place H (home H i))) uses ∙ x
-
-    not_rows : over_rows (work H e.call_no) ≡ false → (j : ℕ) → (work H e.call_no ≡ Fetch j) ⊎ (work H e.call_no ≡ Close j) → ⊥
-    not_rows none j (inl is) = let wrong : true ≡ false = sym (ap over_rows is) ∙ none in cc
-    not_rows none j (inr is) = let wrong : true ≡ false = sym (ap over_rows is) ∙ none in cc
-
-    absurd_scope : {p k : ℕ} → scope (work H e.call_no) ≡ Pinned p → scope (work H e.call_no) ≡ Held k → ⊥
-    absurd_scope {p} {k} is s = let wrong : Pinned p ≡ Held k = sym is ∙ s in cc
-
-    within_scope : {p j k : ℕ} → scope (work H e.call_no) ≡ Within p j → scope (work H e.call_no) ≡ Held k → ⊥
-    within_scope {p} {j} {k} is s = let wrong : Within p j ≡ Held k = sym is ∙ s in cc
-
-    outside : {k : ℕ} → scope (work H e.call_no) ≡ Db → scope (work H e.call_no) ≡ Held k → ⊥
-    outside {k} is s = let wrong : Db ≡ Held k = sym is ∙ s in cc
-
     work_of : (d : DueNow H e) → (e.call_no == 0) ≡ false → DueOf H e.call_no e.call → (w : Work) → work H e.call_no ≡ w → is_due (due_in H e.call_no w) e.call ≡ true → UnderWay H e
     work_of d some o (Statement (Held k) task) is x = inside_due H e k l f d some (ap scope is) o
     work_of d some o (Fetch j) is x = rows_due H e j l f d some (inl is) o.unfinished x
     work_of d some o (Close j) is x = rows_due H e j l f d some (inr is) o.unfinished x
     work_of d some o (End k) is x = end_due H e k l d some is o.unfinished x
-    work_of d some o (Statement (Pinned p) task) is x = pinned_due H e l d some o.unfinished (ap pin_of is ∙ sym (uses_pinned is)) (line_lent H e.call_no (sends_on H e.call_no p) e.call x) (λ j. not_rows (ap over_rows is) j) (λ k s. absurd_scope (ap scope is) s)
-    work_of d some o (Statement (Within p k) task) is x = pinned_due H e l d some o.unfinished (ap pin_of is ∙ sym (uses_within is)) (line_lent H e.call_no (sends_in H e.call_no k) e.call x) (λ j. not_rows (ap over_rows is) j) (λ i s. within_scope (ap scope is) s)
-    work_of d some o (BeginOn p label level read_only) is x = pinned_due H e l d some o.unfinished (ap pin_of is ∙ sym (uses_begin is)) (line_lent H e.call_no (sends_on H e.call_no p) e.call x) (λ j. not_rows (ap over_rows is) j) (λ k s. absurd_scope (ap scope is) s)
-    work_of d some o (PingOn p) is x = pinned_due H e l d some o.unfinished (ap pin_of is ∙ sym (uses_ping is)) (line_lent H e.call_no (sends_on H e.call_no p) e.call x) (λ j. not_rows (ap over_rows is) j) (λ k s. absurd_scope (ap scope is) s)
-    work_of d some o (EndWithin p k) is x =
-        pinned_due H e l d some o.unfinished (ap pin_of is ∙ sym (uses_end is)) (at_home_of (uses_end is) (within_lent H p k (cond_some (tx_ender H k == e.call_no) (ending_within H p k) e.call x))) (λ j. not_rows (ap over_rows is) j) (λ i s. outside (ap scope is) s)
-    work_of d some o (Unpin p) is x =
-        pinned_due H e l d some o.unfinished (ap pin_of is ∙ sym (uses_unpin is)) (at_home_of (uses_unpin is) (unpinning_lent H p (cond_some (pin_ender H p == e.call_no) (unpinning H p) e.call x))) (λ j. not_rows (ap over_rows is) j) (λ i s. outside (ap scope is) s)
     work_of d some o Look is x = absurd cc
     work_of d some o _ is x = own_due H e l d some (ap asks is) h o.unfinished
 
     whose : (b : Bool) → (e.call_no == 0) ≡ b → DueNow H e → UnderWay H e
-    whose true layer d = layer_due H e l f d layer (ap (λ b. is_due (cond b (tidying_for H d.owner) (due_for H e.call_no)) e.call) (sym layer) ∙ d.due)
+    whose true layer d = layer_due H e l f d layer (ap (λ b. is_due (cond b (tidying H (number_of d.owner)) (due_for H e.call_no)) e.call) (sym layer) ∙ d.due)
     whose false some d =
-        let o = due_of H e.call_no e.call (ap (λ b. is_due (cond b (tidying_for H d.owner) (due_for H e.call_no)) e.call) (sym some) ∙ d.due) in
+        let o = due_of H e.call_no e.call (ap (λ b. is_due (cond b (tidying H (number_of d.owner)) (due_for H e.call_no)) e.call) (sym some) ∙ d.due) in
         work_of d some o (work H e.call_no) refl o.due

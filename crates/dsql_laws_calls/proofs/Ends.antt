@@ -1,5 +1,4 @@
--- Once the run has ended, nothing is due for any call: each had its reply by then, or waited in vain. Only a call that
--- closes a pin may have waited for what was on it, and goes on.
+-- Once the run has ended, nothing is due for any call: each had its reply by then, or waited in vain.
 use Rattle.std.proofs.Common.{◌≡◌, ◌≢◌, ℕ, zero, suc, ◌≤◌, ◌==◌, ◌⊎◌, inl, inr, Bool, true, false, not, ◌&&◌, ◌||◌, cond, List, [], ◌∷◌, ◌++◌, length, Option, None, is_some, is_none, refl, sym, ap, subst, ◌∙◌, arith}
 use Rattle.std.specs.Prelude.{slice_index_or}
 use Rattle.dsql_laws.specs.driver.declared.call.DriverCall.{DriverCall}
@@ -13,9 +12,9 @@ use Rattle.dsql_laws.proofs.Tried.{lent_count, shut_fewer}
 use Rattle.dsql_laws.proofs.Wanted.{wants_counts}
 use Rattle.dsql_laws_work.proofs.Rows.{same_or_not}
 use Rattle.dsql_laws.specs.history.declared.work.Work.{Work}
-use Rattle.dsql_laws.specs.history.declared.work.Work.TheVariants.{Statement, Begin, BeginOn, End, EndWithin, Pin, Unpin, Ping as Pings, PingOn, Fetch, Close, Look}
+use Rattle.dsql_laws.specs.history.declared.work.Work.TheVariants.{Statement, Begin, End, Ping as Pings, Fetch, Close, Look}
 use Rattle.dsql_laws.specs.history.Readers.Works.{asks, works, work, work_of, is_fetch, scope}
-use Rattle.dsql_laws.specs.history.Rules.Line.{due_in, due_for, is_due_at, parts, may_come, sends_in, sends_on}
+use Rattle.dsql_laws.specs.history.Rules.Line.{due_in, due_for, is_due_at, parts, may_come, sends_in}
 use Rattle.dsql_laws.specs.history.declared.event.Event.{Event}
 use Rattle.dsql_laws.specs.history.declared.event.Event.TheVariants.{Entered, Heard, Replied, Ended}
 use Rattle.dsql_laws.specs.history.declared.event.Op.{Op}
@@ -30,22 +29,18 @@ use Rattle.dsql_laws.proofs.Wanting.{wants_its_own}
 use Rattle.dsql_laws_calls.proofs.Works.{enters_next, old_unfinished, still_unfinished, old_work}
 use Rattle.dsql_laws_calls.proofs.Looks.{due_there, heard_there, comes}
 use Rattle.dsql_laws_calls.proofs.Rows.{is_worker, ender_works, none_at_end, entering_revives_none}
-use Rattle.dsql_laws.specs.history.declared.work.Scope.TheVariants.{Db, Held, Pinned, Within}
+use Rattle.dsql_laws.specs.history.declared.work.Scope.TheVariants.{Db, Held}
 use Rattle.dsql_laws.specs.history.Readers.Journals.{journal}
 use Rattle.dsql_laws.specs.history.Readers.Lines.{has_sent}
 use Rattle.dsql_laws.specs.history.Readers.Transactions.{goes_on, ending_call, tx_ender}
-use Rattle.dsql_laws.specs.history.Readers.Pins.{pin_goes_on}
-use Rattle.dsql_laws.specs.history.Rules.Ending.{ending, ending_within}
-use Rattle.dsql_laws_calls.proofs.AtEnd.{starts_no_unpin, no_work_yet, waits_at_end, wants_at_end, waiting_unlent, unlent_stays}
+use Rattle.dsql_laws.specs.history.Rules.Ending.{ending}
+use Rattle.dsql_laws_calls.proofs.AtEnd.{no_work_yet, waits_at_end, wants_at_end, waiting_unlent, unlent_stays}
 use Rattle.dsql_laws_calls.proofs.Own.{sender_wants_none, some_due}
 use Rattle.dsql_laws_calls.proofs.Idle.{lent_asks, due_lent, came_of}
 use Rattle.dsql_laws_calls.proofs.TxEnders.{BegunNow, tx_ender_works, went_on, none_goes_at_end, sent_entered}
 use Rattle.dsql_laws_calls.proofs.Begun.{begin_heard}
-use Rattle.dsql_laws_calls.specs.Nothing.{unpins}
-use Rattle.dsql_laws_calls.proofs.Plain.{starts}
-use Rattle.dsql_laws_calls.proofs.Stays.{as_many, work_stays}
-use Rattle.dsql_laws_calls.proofs.Scopes.{makes_pin}
-use Rattle.dsql_laws_calls.proofs.Pinnings.{PinnedNow, PinsNothing, no_pin_at_end, pin_went_on, pins_nothing_at_end, pins_nothing_after, pins_without_lending}
+use Rattle.dsql_laws_calls.proofs.Plain.{begins}
+use Rattle.dsql_laws_calls.proofs.Stays.{as_many}
 
 never : true ≡ false → ⊥
 never h = cc
@@ -57,29 +52,25 @@ record Idle (H : List Event) : Type 0 where
   lent : (n : ℕ) → is_unfinished H n ≡ true → lent_count n (pool H) ≡ 0
   live : (k : ℕ) → are_live H k ≡ false
   going : (k : ℕ) → goes_on H k ≡ false
-  pinned : (p : ℕ) → pin_goes_on H p ≡ false
-  pinning : (n : ℕ) → is_unfinished H n ≡ true → makes_pin (work H n) ≡ true → PinsNothing H n
   ender : (m k : ℕ) → is_unfinished H m ≡ true → ender H k ≢ m
   tx_ender : (m k : ℕ) → is_unfinished H m ≡ true → tx_ender H k ≢ m
-  sent : (m c : ℕ) → is_unfinished H m ≡ true → asks (work H m) ≡ false → unpins (work H m) ≡ false → has_sent m (journal H c) ≡ false
+  sent : (m c : ℕ) → is_unfinished H m ≡ true → asks (work H m) ≡ false → has_sent m (journal H c) ≡ false
 
 -- Holds if all of `Idle` holds, and no driver call of a call is under way. This is so once the run has ended.
 pub record Over (H : List Event) : Type 0 where
   pub lent : (n : ℕ) → is_unfinished H n ≡ true → lent_count n (pool H) ≡ 0
   pub live : (k : ℕ) → are_live H k ≡ false
   pub going : (k : ℕ) → goes_on H k ≡ false
-  pub pinned : (p : ℕ) → pin_goes_on H p ≡ false
-  pub pinning : (n : ℕ) → is_unfinished H n ≡ true → makes_pin (work H n) ≡ true → PinsNothing H n
   pub ender : (m k : ℕ) → is_unfinished H m ≡ true → ender H k ≢ m
   pub tx_ender : (m k : ℕ) → is_unfinished H m ≡ true → tx_ender H k ≢ m
-  pub sent : (m c : ℕ) → is_unfinished H m ≡ true → asks (work H m) ≡ false → unpins (work H m) ≡ false → has_sent m (journal H c) ≡ false
-  pub layer : (e : Entry) → may_come H e ≡ true → unpins (work H e.call_no) ≡ false → (e.call_no == 0) ≡ true
+  pub sent : (m c : ℕ) → is_unfinished H m ≡ true → asks (work H m) ≡ false → has_sent m (journal H c) ≡ false
+  pub layer : (e : Entry) → may_come H e ≡ true → (e.call_no == 0) ≡ true
 
 idle_of : (H : List Event) → Over H → Idle H
-idle_of H o = record { lent = o.lent; live = o.live; going = o.going; pinned = o.pinned; pinning = o.pinning; ender = o.ender; tx_ender = o.tx_ender; sent = o.sent }
+idle_of H o = record { lent = o.lent; live = o.live; going = o.going; ender = o.ender; tx_ender = o.tx_ender; sent = o.sent }
 
-over_of : (H : List Event) → Idle H → ((e : Entry) → may_come H e ≡ true → unpins (work H e.call_no) ≡ false → (e.call_no == 0) ≡ true) → Over H
-over_of H i layer = record { lent = i.lent; live = i.live; going = i.going; pinned = i.pinned; pinning = i.pinning; ender = i.ender; tx_ender = i.tx_ender; sent = i.sent; layer = layer }
+over_of : (H : List Event) → Idle H → ((e : Entry) → may_come H e ≡ true → (e.call_no == 0) ≡ true) → Over H
+over_of H i layer = record { lent = i.lent; live = i.live; going = i.going; ender = i.ender; tx_ender = i.tx_ender; sent = i.sent; layer = layer }
 
 -- So nothing is due.
 
@@ -94,8 +85,8 @@ none_sent true b c d q h k = absurd cc
 none_sent false true c d q h k = absurd cc
 none_sent false false c d q h k = refl
 
-nothing_due : (H : List Event) → Idle H → (n : ℕ) → unpins (work H n) ≡ false → is_some (due_for H n) ≡ false
-nothing_due H i n no_pin = by (is_unfinished H n) refl
+nothing_due : (H : List Event) → Idle H → (n : ℕ) → is_some (due_for H n) ≡ false
+nothing_due H i n = by (is_unfinished H n) refl
   where
     none_in : (b : Bool) → is_some (due_in H n (work H n)) ≡ b → asks (work H n) ≡ true → is_unfinished H n ≡ true → b ≡ false
     none_in false is own u = refl
@@ -110,10 +101,7 @@ nothing_due H i n no_pin = by (is_unfinished H n) refl
     none_ending k u = ap (λ b. is_some (cond b (ending H k) None)) (other_number (tx_ender H k) n (i.tx_ender n k u))
 
     none_inside : (k : ℕ) → asks (work H n) ≡ false → is_unfinished H n ≡ true → is_some (cond (sends_in H n k) (line_of H n wishes.Nothing) None) ≡ false
-    none_inside k idle u = none_sent (has_begun_to_send H n) (goes_on H k) (is_none (decided H n)) true (line_of H n wishes.Nothing) (i.sent n (site H n) u idle no_pin) (i.going k)
-
-    none_pinned : (p : ℕ) → asks (work H n) ≡ false → is_unfinished H n ≡ true → is_some (cond (sends_on H n p) (line_of H n wishes.Nothing) None) ≡ false
-    none_pinned p idle u = none_sent (has_begun_to_send H n) (pin_goes_on H p) (is_none (decided H n)) true (line_of H n wishes.Nothing) (i.sent n (site H n) u idle no_pin) (i.pinned p)
+    none_inside k idle u = none_sent (has_begun_to_send H n) (goes_on H k) (is_none (decided H n)) true (line_of H n wishes.Nothing) (i.sent n (site H n) u idle) (i.going k)
 
     asking : (w : Work) → work H n ≡ w → asks w ≡ true → is_unfinished H n ≡ true → is_some (due_in H n w) ≡ false
     asking w is own u = subst (λ v. is_some (due_in H n v) ≡ false) is (none_in (is_some (due_in H n (work H n))) refl (ap asks is ∙ own) u)
@@ -122,17 +110,10 @@ nothing_due H i n no_pin = by (is_unfinished H n) refl
     none_of (Statement Db task) is u = asking (Statement Db task) is refl u
     none_of (Begin label level read_only) is u = asking (Begin label level read_only) is refl u
     none_of Pings is u = asking Pings is refl u
-    none_of (Pin label) is u = asking (Pin label) is refl u
     none_of (Statement (Held k) task) is u = none_inside k (ap asks is) u
-    none_of (Statement (Within pin k) task) is u = none_inside k (ap asks is) u
-    none_of (Statement (Pinned pin) task) is u = none_pinned pin (ap asks is) u
-    none_of (BeginOn pin label level read_only) is u = none_pinned pin (ap asks is) u
-    none_of (PingOn pin) is u = none_pinned pin (ap asks is) u
     none_of (Fetch k) is u = none_over k u
     none_of (Close k) is u = none_over k u
     none_of (End k) is u = none_ending k u
-    none_of (EndWithin pin k) is u = ap (λ b. is_some (cond b (ending_within H pin k) None)) (other_number (tx_ender H k) n (i.tx_ender n k u))
-    none_of (Unpin pin) is u = absurd (never (sym (ap unpins is) ∙ no_pin))
     none_of Look is u = refl
 
     by : (b : Bool) → is_unfinished H n ≡ b → is_some (cond b (due_in H n (work H n)) None) ≡ false
@@ -140,16 +121,15 @@ nothing_due H i n no_pin = by (is_unfinished H n) refl
     by false u = refl
 
 -- An entry that may come is due, or could come before the event.
-layer_only : (H : List Event) (last : Event) → ((n : ℕ) → unpins (work (last ∷ H) n) ≡ false → is_some (due_for (last ∷ H) n) ≡ false)
-    → ((e : Entry) → may_come H e ≡ true → not (parts last e) ≡ true → unpins (work (last ∷ H) e.call_no) ≡ false → (e.call_no == 0) ≡ true)
-    → (e : Entry) → may_come (last ∷ H) e ≡ true → unpins (work (last ∷ H) e.call_no) ≡ false → (e.call_no == 0) ≡ true
-layer_only H last none before e h no_pin = by_layer (e.call_no == 0) refl
+layer_only : (H : List Event) (last : Event) → ((n : ℕ) → is_some (due_for (last ∷ H) n) ≡ false) → ((e : Entry) → may_come H e ≡ true → not (parts last e) ≡ true → (e.call_no == 0) ≡ true)
+    → (e : Entry) → may_come (last ∷ H) e ≡ true → (e.call_no == 0) ≡ true
+layer_only H last none before e h = by_layer (e.call_no == 0) refl
   where
     by : (a b : Bool) → is_due_at (last ∷ H) (place (last ∷ H) e.conn) e ≡ a → (a || (b && may_come H e)) ≡ true → not (parts last e) ≡ b → (e.call_no == 0) ≡ false → ⊥
     by true b now k apart some =
         let due = due_there (last ∷ H) (place (last ∷ H) e.conn) e now some in
-        never (sym (some_due (due_for (last ∷ H) e.call_no) e.call due) ∙ none e.call_no no_pin)
-    by false true now k apart some = never (sym (before e k apart no_pin) ∙ some)
+        never (sym (some_due (due_for (last ∷ H) e.call_no) e.call due) ∙ none e.call_no)
+    by false true now k apart some = never (sym (before e k apart) ∙ some)
     by false false now k apart some = absurd cc
 
     by_layer : (b : Bool) → (e.call_no == 0) ≡ b → (e.call_no == 0) ≡ true
@@ -158,41 +138,17 @@ layer_only H last none before e h no_pin = by_layer (e.call_no == 0) refl
 
 -- The run ends.
 
-unpins_idle : (w : Work) → unpins w ≡ true → asks w ≡ false
-unpins_idle (Unpin pin) h = refl
-unpins_idle w h = absurd cc
-
--- A call that doesn't ask for a connection is lent none.
-idle_unlent : (H : List Event) (n : ℕ) → Lawful H → n ≢ 0 → asks (work H n) ≡ false → lent_count n (pool H) ≡ 0
-idle_unlent H n l some idle = by (lent_count n (pool H)) refl
-  where
-    by : (k : ℕ) → lent_count n (pool H) ≡ k → lent_count n (pool H) ≡ 0
-    by zero is = is
-    by (suc k) is = absurd (never (sym (lent_asks H n l some (omega (arith, is))) ∙ idle))
-
 ends_lent : (H : List Event) → Lawful (Ended ∷ H) → (n : ℕ) → is_unfinished H n ≡ true → lent_count n (pool (Ended ∷ H)) ≡ 0
-ends_lent H l n u = by (unpins (work H n)) refl
-  where
-    by : (b : Bool) → unpins (work H n) ≡ b → lent_count n (pool (Ended ∷ H)) ≡ 0
-    by true is =
-        let none = idle_unlent H n l.0 (unfinished_from_one H n l.0 u) (unpins_idle (work H n) is) in
-        let few = shut_fewer n (pool H) in
-        omega (arith, none, few)
-    by false is =
-        let none = waiting_unlent H n l.0 (unfinished_from_one H n l.0 u) (waits_at_end H n l.1 u is) in
-        let few = shut_fewer n (pool H) in
-        omega (arith, none, few)
+ends_lent H l n u =
+    let none = waiting_unlent H n l.0 (unfinished_from_one H n l.0 u) (waits_at_end H n l.1 u) in
+    let few = shut_fewer n (pool H) in
+    omega (arith, none, few)
 
 worker_asks : (w : Work) → is_worker w ≡ true → asks w ≡ false
 worker_asks (Fetch k) h = refl
 worker_asks (Close k) h = refl
 worker_asks (End k) h = refl
-worker_asks (EndWithin pin k) h = refl
 worker_asks _ h = absurd cc
-
-worker_no_unpin : (w : Work) → is_worker w ≡ true → unpins w ≡ false
-worker_no_unpin (Unpin pin) h = absurd cc
-worker_no_unpin w h = refl
 
 ends_ender : (H : List Event) → Lawful (Ended ∷ H) → (m k : ℕ) → is_unfinished H m ≡ true → ender (Ended ∷ H) k ≢ m
 ends_ender H l m k u is = by (are_live H k) is
@@ -208,10 +164,10 @@ ends_ender H l m k u is = by (are_live H k) is
     by true j = some (sym j ∙ none_now (are_live (Ended ∷ H) k))
     by false j =
         let works : is_worker (work H m) ≡ true = subst (λ i. is_worker (work H i) ≡ true) j (ender_works H k l.0 (λ none. some (sym j ∙ none))) in
-        never (sym (wants_its_own H m l.0 some (wants_at_end H m l.1 u (worker_no_unpin (work H m) works))) ∙ worker_asks (work H m) works)
+        never (sym (wants_its_own H m l.0 some (wants_at_end H m l.1 u)) ∙ worker_asks (work H m) works)
 
-ends_layer : (H : List Event) → Lawful (Ended ∷ H) → (e : Entry) → may_come H e ≡ true → unpins (work H e.call_no) ≡ false → (e.call_no == 0) ≡ true
-ends_layer H l e h no_pin = by (e.call_no == 0) refl
+ends_layer : (H : List Event) → Lawful (Ended ∷ H) → (e : Entry) → may_come H e ≡ true → (e.call_no == 0) ≡ true
+ends_layer H l e h = by (e.call_no == 0) refl
   where
     by : (b : Bool) → (e.call_no == 0) ≡ b → (e.call_no == 0) ≡ true
     by true is = is
@@ -219,7 +175,7 @@ ends_layer H l e h no_pin = by (e.call_no == 0) refl
         let s = came_of H e l.0 h is in
         let n = e.call_no in
         let some : n ≢ 0 = unfinished_from_one H n l.0 s.unfinished in
-        let wanting = wants_at_end H n l.1 s.unfinished no_pin in
+        let wanting = wants_at_end H n l.1 s.unfinished in
         let none = sender_wants_none H e l.0 h is (wants_its_own H n l.0 some wanting) in
         let wanted_one = wants_counts n (pool H) wanting in
         absurd (omega (arith, none, wanted_one))
@@ -235,10 +191,10 @@ ends_tx_ender H l m k u is = by (goes_on H k) (goes_on (Ended ∷ H) k) is
     by true false j = some (sym j)
     by false b j =
         let works : is_worker (work H m) ≡ true = subst (λ i. is_worker (work H i) ≡ true) j (tx_ender_works H k l.0 (λ none. some (sym j ∙ none))) in
-        never (sym (wants_its_own H m l.0 some (wants_at_end H m l.1 u (worker_no_unpin (work H m) works))) ∙ worker_asks (work H m) works)
+        never (sym (wants_its_own H m l.0 some (wants_at_end H m l.1 u)) ∙ worker_asks (work H m) works)
 
-ends_sent : (H : List Event) → Lawful (Ended ∷ H) → (m c : ℕ) → is_unfinished H m ≡ true → asks (work H m) ≡ false → unpins (work H m) ≡ false → has_sent m (journal H c) ≡ false
-ends_sent H l m c u idle no_pin = absurd (never (sym (wants_its_own H m l.0 (unfinished_from_one H m l.0 u) (wants_at_end H m l.1 u no_pin)) ∙ idle))
+ends_sent : (H : List Event) → Lawful (Ended ∷ H) → (m c : ℕ) → is_unfinished H m ≡ true → asks (work H m) ≡ false → has_sent m (journal H c) ≡ false
+ends_sent H l m c u idle = absurd (never (sym (wants_its_own H m l.0 (unfinished_from_one H m l.0 u) (wants_at_end H m l.1 u)) ∙ idle))
 
 over_at_end : (H : List Event) → Lawful (Ended ∷ H) → Over (Ended ∷ H)
 over_at_end H l =
@@ -246,8 +202,6 @@ over_at_end H l =
       lent = ends_lent H l;
       live = none_at_end H;
       going = none_goes_at_end H;
-      pinned = no_pin_at_end H;
-      pinning = pins_nothing_at_end H l;
       ender = ends_ender H l;
       tx_ender = ends_tx_ender H l;
       sent = ends_sent H l;
@@ -266,23 +220,18 @@ zero_work [] = refl
 zero_work (Entered client m op ∷ H) = let a = as_many H in let b = some_calls H in first_work (works H) (work_of (works H) op) (omega (arith, a, b)) (zero_work H)
 zero_work (_ ∷ H) = zero_work H
 
-heard_of_layer : (H : List Event) (e : Entry) → Allowed H (Heard e) → Over H → unpins (work H e.call_no) ≡ false → (e.call_no == 0) ≡ true
-heard_of_layer H e a o no_pin = by (e.call_no == 0) refl
+heard_of_layer : (H : List Event) (e : Entry) → Allowed H (Heard e) → Over H → (e.call_no == 0) ≡ true
+heard_of_layer H e a o = by (e.call_no == 0) refl
   where
     by : (b : Bool) → (e.call_no == 0) ≡ b → (e.call_no == 0) ≡ true
     by true is = is
-    by false is = let there = heard_there H e a in o.layer e (comes H e (place H e.conn) there.sets there.line is) no_pin
+    by false is = let there = heard_there H e a in o.layer e (comes H e (place H e.conn) there.sets there.line is)
 
 live_after : (H : List Event) (e : Event) → Allowed H e → Over H → (k : ℕ) → are_live (e ∷ H) k ≡ false
-live_after H (Heard e) a o k = by (work H e.call_no) (unpins (work H e.call_no)) refl refl
-  where
-    by : (w : Work) (b : Bool) → work H e.call_no ≡ w → unpins (work H e.call_no) ≡ b → live (rows_of k (rows_heard H (work H e.call_no) e.call_no e.call e.answer (handed_out H))) ≡ false
-    by (Unpin pin) b is unpinning = ap (λ v. live (rows_of k (rows_heard H v e.call_no e.call e.answer (handed_out H)))) is ∙ o.live k
-    by w true is unpinning = absurd (never (sym unpinning ∙ ap unpins is))
-    by w false is no_pin =
-        let none : e.call_no ≡ 0 = same_number e.call_no 0 (heard_of_layer H e a o no_pin) in
-        let looks : work H e.call_no ≡ Look = ap (work H) none ∙ zero_work H in
-        ap (λ v. live (rows_of k (rows_heard H v e.call_no e.call e.answer (handed_out H)))) looks ∙ o.live k
+live_after H (Heard e) a o k =
+    let none : e.call_no ≡ 0 = same_number e.call_no 0 (heard_of_layer H e a o) in
+    let looks : work H e.call_no ≡ Look = ap (work H) none ∙ zero_work H in
+    ap (λ w. live (rows_of k (rows_heard H w e.call_no e.call e.answer (handed_out H)))) looks ∙ o.live k
 live_after H (Entered client m op) a o k = entering_revives_none H client m op k (o.live k)
 live_after H Ended a o k = none_at_end H k
 live_after H _ a o k = o.live k
@@ -320,23 +269,12 @@ going_after H e a o k = by (goes_on (e ∷ H) k) refl
     from x is (inr it) =
         let heard : Allowed H (Heard it.entry) = subst (λ y. Allowed H y) (sym is ∙ it.heard) a in
         let there = heard_there H it.entry heard in
+        let none : it.entry.call_no ≡ 0 = same_number it.entry.call_no 0 (heard_of_layer H it.entry heard o) in
         let begins_it = begin_heard H it.entry (place H it.entry.conn) there.sets there.line it.begin in
-        let none : it.entry.call_no ≡ 0 = same_number it.entry.call_no 0 (heard_of_layer H it.entry heard o (starts_no_unpin (work H it.entry.call_no) begins_it)) in
-        never (sym begins_it ∙ (ap (λ j. starts (work H j)) none ∙ ap starts (zero_work H)))
+        never (sym begins_it ∙ (ap (λ j. begins (work H j)) none ∙ ap begins (zero_work H)))
 
     by : (b : Bool) → goes_on (e ∷ H) k ≡ b → b ≡ false
     by true is = absurd (from e refl (went_on H e k is))
-    by false is = refl
-
-pinned_after : (H : List Event) (e : Event) → Allowed H e → Over H → (p : ℕ) → pin_goes_on (e ∷ H) p ≡ false
-pinned_after H e a o p = by (pin_goes_on (e ∷ H) p) refl
-  where
-    from : (x : Event) → x ≡ e → (pin_goes_on H p ≡ true) ⊎ PinnedNow H x p → ⊥
-    from x is (inl were) = never (sym were ∙ o.pinned p)
-    from x is (inr it) = pins_without_lending H p (subst (λ y. Allowed H y) (sym is ∙ it.event) a) it.makes o.pinning
-
-    by : (b : Bool) → pin_goes_on (e ∷ H) p ≡ b → b ≡ false
-    by true is = absurd (from e refl (pin_went_on H e p is))
     by false is = refl
 
 old_tx_ender : (H : List Event) (e : Event) → Lawful (e ∷ H) → Over H → (m k : ℕ) → is_unfinished (e ∷ H) m ≡ true → tx_ender H k ≢ m
@@ -356,8 +294,8 @@ old_tx_ender H e l o m k u is = o.tx_ender m k u is
 same_tx_ender : (H : List Event) (e : Event) (k : ℕ) → goes_on H k ≡ false → tx_ender (e ∷ H) k ≡ tx_ender H k
 same_tx_ender H e k none = ap (λ b. cond b (cond (goes_on (e ∷ H) k) 0 (ending_call e)) (tx_ender H k)) none
 
-sent_after : (H : List Event) (e : Event) → Lawful (e ∷ H) → Over H → (m c : ℕ) → is_unfinished (e ∷ H) m ≡ true → asks (work (e ∷ H) m) ≡ false → unpins (work (e ∷ H) m) ≡ false → has_sent m (journal (e ∷ H) c) ≡ false
-sent_after H (Entered client n op) l o m c u idle no_pin = by (same_or_not m n)
+sent_after : (H : List Event) (e : Event) → Lawful (e ∷ H) → Over H → (m c : ℕ) → is_unfinished (e ∷ H) m ≡ true → asks (work (e ∷ H) m) ≡ false → has_sent m (journal (e ∷ H) c) ≡ false
+sent_after H (Entered client n op) l o m c u idle = by (same_or_not m n)
   where
     new : n ≡ length (calls H)
     new = enters_next H client n op l.1
@@ -371,20 +309,19 @@ sent_after H (Entered client n op) l o m c u idle no_pin = by (same_or_not m n)
 
     by : (m ≡ n) ⊎ (m ≢ n) → has_sent m (journal H c) ≡ false
     by (inl same) = silent (has_sent m (journal H c)) refl same
-    by (inr apart) = o.sent m c (sym (old_unfinished H client n op m apart) ∙ u) (sym (ap asks (old_work H client n op m new apart)) ∙ idle) (sym (ap unpins (old_work H client n op m new apart)) ∙ no_pin)
-sent_after H (Heard e) l o m c u idle no_pin = by (e.conn == c)
+    by (inr apart) = o.sent m c (sym (old_unfinished H client n op m apart) ∙ u) (sym (ap asks (old_work H client n op m new apart)) ∙ idle)
+sent_after H (Heard e) l o m c u idle = by (e.conn == c)
   where
     other : (e.call_no == m) ≡ false
     other =
-        other_number e.call_no m (λ same.
-        let none = same_number e.call_no 0 (heard_of_layer H e l.1 o (ap (λ j. unpins (work H j)) same ∙ no_pin)) in
-        unfinished_from_one H m l.0 u (sym same ∙ none))
+        let none = same_number e.call_no 0 (heard_of_layer H e l.1 o) in
+        other_number e.call_no m (λ same. unfinished_from_one H m l.0 u (sym same ∙ none))
 
     by : (b : Bool) → has_sent m (cond b (e ∷ journal H c) (journal H c)) ≡ false
-    by true = ap (λ b. b || has_sent m (journal H c)) other ∙ o.sent m c u idle no_pin
-    by false = o.sent m c u idle no_pin
-sent_after H (Replied n reply) l o m c u idle no_pin = let b = still_unfinished H n reply m u in o.sent m c b.1 idle no_pin
-sent_after H e l o m c u idle no_pin = o.sent m c u idle no_pin
+    by true = ap (λ b. b || has_sent m (journal H c)) other ∙ o.sent m c u idle
+    by false = o.sent m c u idle
+sent_after H (Replied n reply) l o m c u idle = let b = still_unfinished H n reply m u in o.sent m c b.1 idle
+sent_after H e l o m c u idle = o.sent m c u idle
 
 same_ender : (H : List Event) (e : Event) (k : ℕ) → are_live H k ≡ false → ender (e ∷ H) k ≡ ender H k
 same_ender H e k none = ap (λ b. cond b (ended_at e (are_live (e ∷ H) k)) (ender H k)) none
@@ -403,35 +340,23 @@ old_ender H (Entered client n op) l o m k u is = by (same_or_not m n)
 old_ender H (Replied n reply) l o m k u is = let b = still_unfinished H n reply m u in o.ender m k b.1 is
 old_ender H _ l o m k u is = o.ender m k u is
 
--- A call that closes a pin did so before the event.
-unpins_before : (H : List Event) (e : Event) (n : ℕ) → unpins (work (e ∷ H) n) ≡ false → unpins (work H n) ≡ false
-unpins_before H e n h = by (work H n) refl
-  where
-    by : (w : Work) → work H n ≡ w → unpins w ≡ false
-    by (Unpin pin) is =
-        let busy : work H n ≡ Look → ⊥ = λ look. never (sym (ap unpins (sym look ∙ is))) in
-        absurd (never (sym (ap unpins (work_stays H e n busy) ∙ ap unpins is) ∙ h))
-    by w is = refl
-
 over_after : (H : List Event) (e : Event) → Lawful (e ∷ H) → has_ended H ≡ true → Over H → Over (e ∷ H)
 over_after H e l h o =
     let i : Idle (e ∷ H) = record {
       lent = lent_after H e l h o;
       live = live_after H e l.1 o;
       going = going_after H e l.1 o;
-      pinned = pinned_after H e l.1 o;
-      pinning = pins_nothing_after H e l h (λ x is. heard_of_layer H x (subst (λ y. Allowed H y) is l.1) o) o.pinning;
       ender = λ m k u is. old_ender H e l o m k u (sym (same_ender H e k (o.live k)) ∙ is);
       tx_ender = λ m k u is. old_tx_ender H e l o m k u (sym (same_tx_ender H e k (o.going k)) ∙ is);
       sent = sent_after H e l o;
     }
     in
-    over_of (e ∷ H) i (layer_only H e (nothing_due (e ∷ H) i) (λ x k apart no_pin. o.layer x k (unpins_before H e x.call_no no_pin)))
+    over_of (e ∷ H) i (layer_only H e (nothing_due (e ∷ H) i) (λ x k apart. o.layer x k))
 
 pub over_once_ended : (H : List Event) → Lawful H → has_ended H ≡ true → Over H
 over_once_ended [] l h = absurd cc
 over_once_ended (Ended ∷ H) l h = over_at_end H l
 over_once_ended (e1 ∷ H) l h = over_after H e1 l h (over_once_ended H l.0 h)
 
-pub none_due_once_ended : (H : List Event) (n : ℕ) → Lawful H → has_ended H ≡ true → unpins (work H n) ≡ false → is_some (due_for H n) ≡ false
-none_due_once_ended H n l h no_pin = nothing_due H (idle_of H (over_once_ended H l h)) n no_pin
+pub none_due_once_ended : (H : List Event) (n : ℕ) → Lawful H → has_ended H ≡ true → is_some (due_for H n) ≡ false
+none_due_once_ended H n l h = nothing_due H (idle_of H (over_once_ended H l h)) n

@@ -10,10 +10,7 @@ use Rattle.dsql_laws.proofs.Tests.{same_number}
 use Rattle.dsql_laws.specs.history.declared.event.Event.{Event}
 use Rattle.dsql_laws.specs.history.declared.event.Event.TheVariants.{Entered, Heard, Ended}
 use Rattle.dsql_laws.specs.history.declared.event.Op.{Op}
-use Rattle.dsql_laws.specs.history.Readers.Works.{work, scope, is_in, hands_out_in}
-use Rattle.dsql_laws.specs.history.declared.work.Work.{Work}
-use Rattle.dsql_laws.specs.history.declared.work.Work.TheVariants.{Statement}
-use Rattle.dsql_laws.specs.history.declared.work.Task.TheVariants.{HandOut}
+use Rattle.dsql_laws.specs.history.Readers.Works.{work, scope, hands_out_in}
 use Rattle.dsql_laws.specs.history.Readers.Journals.{journal, heard_in}
 use Rattle.dsql_laws.specs.history.Readers.Lines.{is_about, line_among, has_sent}
 use Rattle.dsql_laws.specs.history.Readers.Pool.{place}
@@ -27,8 +24,9 @@ use Rattle.dsql_laws_calls.proofs.Makers.{hands_out, some_entered, some_mapped, 
 use Rattle.dsql_laws_calls.proofs.Begun.{stays_begun}
 use Rattle.dsql_laws_calls.proofs.TxEnders.{sent_entered}
 use Rattle.dsql_laws_calls.proofs.Ends.{zero_work}
-use Rattle.dsql_laws_calls.proofs.Inside.{in_tx, in_tx_number, hands_same}
+use Rattle.dsql_laws_calls.proofs.Inside.{inside, number_not, hands_same}
 use Rattle.dsql_laws_calls.proofs.LineParts.{fits_heard, grows, unsent_line, unsent_in, query_makes, about_gives, given_or}
+use Rattle.dsql_laws_calls.proofs.Why.{scoped}
 
 -- Is true if a cursor stands in the line of call m.
 abbrev pub holds_cursor : ℕ → List Entry → Bool
@@ -97,16 +95,12 @@ rows_begun (Entered client m op ∷ H) n k l some hands =
     stays_begun H (Entered client m op) k (rows_begun H n k l.0 were (hands_same H (Entered client m op) n k were hands))
 rows_begun (Heard e ∷ H) n k l some hands = stays_begun H (Heard e) k (by (rows_begun H n k l.0) (some_heard H (work H e.call_no) e.call_no e.call e.answer n (handed_out H) some))
   where
-    hands_inside : (w : Work) → hands_out_in k w ≡ true → is_in k (scope w) ≡ true
-    hands_inside (Statement s (HandOut label)) x = x
-    hands_inside w x = absurd cc
-
     by : (is_some (rows_by H n) ≡ true → hands_out_in k (work H n) ≡ true → is_begun H k ≡ true) → (is_some (rows_by H n) ≡ true) ⊎ ((n ≡ e.call_no) × (hands_out (work H e.call_no) ≡ true)) → is_begun H k ≡ true
     by rest (inl were) = rest were hands
     by rest (inr new) =
-        let in_it = hands_inside (work H e.call_no) (ap (λ j. hands_out_in k (work H j)) (sym new.0) ∙ hands) in
-        let i = in_tx H l.0 in
+        let in_it = scoped (work H e.call_no) k (ap (λ j. hands_out_in k (work H j)) (sym new.0) ∙ hands) in
+        let i = inside H l.0 in
         let there = heard_there H e l.1 in
-        i.coming e k (comes H e (place H e.conn) there.sets there.line (in_tx_number H e.call_no k in_it)) in_it
+        i.coming e k (comes H e (place H e.conn) there.sets there.line (number_not H e.call_no k in_it)) in_it
 rows_begun (Ended ∷ H) n k l some hands = stays_begun H Ended k (rows_begun H n k l.0 (sym (some_mapped (λ j. ended_by (last_end (scope (work H j)))) n (handed_out H)) ∙ some) hands)
 rows_begun (_ ∷ H) n k l some hands = rows_begun H n k l.0 some hands

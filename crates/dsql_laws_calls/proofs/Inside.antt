@@ -9,6 +9,7 @@ use Rattle.dsql_laws.specs.driver.declared.answer.DriverAnswer.{DriverAnswer}
 use Rattle.dsql_laws.specs.driver.declared.answer.DriverAnswer.TheVariants.{Cursor}
 use Rattle.dsql_laws.specs.course.declared.course.Wish.TheVariants as wishes
 use Rattle.dsql_laws.specs.journal.declared.entry.Entry.{Entry}
+use Rattle.dsql_laws.specs.journal.Kinds.{number_of}
 use Rattle.dsql_laws.specs.numbered.Numbered.{thing_of, changed}
 use Rattle.dsql_laws.specs.rows.declared.rows.Rows.{Rows}
 use Rattle.dsql_laws.specs.rows.declared.end.RowsEnd.TheVariants as ends
@@ -22,13 +23,13 @@ use Rattle.dsql_laws_work.proofs.Rows.{same_or_not}
 use Rattle.dsql_laws.specs.tx.Transactions as of_txs
 use Rattle.dsql_laws.specs.works.HandedOut.{Made}
 use Rattle.dsql_laws.specs.history.Readers.HandedOut.{fetched, live, born, is_late, end_in, ended_with, handed_out, rows_by, rows_heard, are_live}
-use Rattle.dsql_laws.proofs.Tests.{both, same_number, same_itself}
+use Rattle.dsql_laws.proofs.Tests.{both, same_number}
 use Rattle.dsql_laws.specs.history.declared.event.Event.{Event}
 use Rattle.dsql_laws.specs.history.declared.event.Event.TheVariants.{Entered, Heard, Ended}
 use Rattle.dsql_laws.specs.history.declared.event.Op.{Op}
 use Rattle.dsql_laws.specs.history.declared.event.Op.TheVariants as ops
 use Rattle.dsql_laws.specs.history.declared.work.Scope.{Scope}
-use Rattle.dsql_laws.specs.history.declared.work.Scope.TheVariants.{Held, Within}
+use Rattle.dsql_laws.specs.history.declared.work.Scope.TheVariants.{Db, Held}
 use Rattle.dsql_laws.specs.history.declared.work.Work.{Work}
 use Rattle.dsql_laws.specs.history.declared.work.Task.TheVariants.{HandOut}
 use Rattle.dsql_laws.specs.history.declared.work.Work.TheVariants.{Statement, Fetch, Look}
@@ -40,7 +41,7 @@ use Rattle.dsql_laws.specs.history.Readers.Pool.{place}
 use Rattle.dsql_laws.specs.history.Readers.Transactions.{ends_as, transactions, tx_by, is_begun, is_over, goes_on}
 use Rattle.dsql_laws.specs.history.Readers.Calls.{decided, site, has_begun_to_send}
 use Rattle.dsql_laws.specs.history.Rules.Sent.{line_of}
-use Rattle.dsql_laws.specs.history.Rules.Line.{sends_in, due_in, due_for, tidying_for, is_due, is_due_at, parts, may_come}
+use Rattle.dsql_laws.specs.history.Rules.Line.{sends_in, due_in, due_for, tidying, is_due, is_due_at, parts, may_come}
 use Rattle.dsql_laws.specs.history.Legal.{Allowed, Lawful}
 use Rattle.dsql_laws_calls.proofs.EndedRows.{mapped_rows, fetch_stays}
 use Rattle.dsql_laws_calls.proofs.Stays.{work_stays}
@@ -56,19 +57,13 @@ use Rattle.dsql_laws_calls.proofs.Ends.{zero_work}
 use Rattle.dsql_laws_calls.proofs.LiveRows.{live_some}
 
 -- A call in a transaction has something to do.
-pub in_tx_busy : (w : Work) (k : ℕ) → is_in k (scope w) ≡ true → w ≡ Look → ⊥
-in_tx_busy w k is look = let wrong : false ≡ true = sym (ap (λ v. is_in k (scope v)) look) ∙ is in cc
-
-pub held_in : (s : Scope) (k : ℕ) → s ≡ Held k → is_in k s ≡ true
-held_in s k is = ap (is_in k) is ∙ same_itself k
-
 pub inside_busy : (w : Work) (k : ℕ) → scope w ≡ Held k → w ≡ Look → ⊥
-inside_busy w k is look = in_tx_busy w k (held_in (scope w) k is) look
+inside_busy w k is look = let wrong : Db ≡ Held k = sym (ap scope look) ∙ is in cc
 
 pub scope_stays : (H : List Event) (e : Event) (m k : ℕ) → scope (work H m) ≡ Held k → scope (work (e ∷ H) m) ≡ Held k
 scope_stays H e m k is = ap scope (work_stays H e m (inside_busy (work H m) k is)) ∙ is
 
--- A call in a transaction with a connection of its own uses that connection.
+-- A call in a transaction uses the transaction's connection.
 pub inside_uses : (H : List Event) (m k : ℕ) → scope (work H m) ≡ Held k → borrower H m ≡ k
 inside_uses H m k is = by (work H m) refl is
   where
@@ -84,55 +79,48 @@ pub record DueInside (H : List Event) (m k : ℕ) (q : DriverCall) : Type 0 wher
   pub sends : sends_in H m k ≡ true
   pub due : is_due (line_of H m wishes.Nothing) q ≡ true
 
-pub due_in_tx : (H : List Event) (m k : ℕ) (q : DriverCall) (w : Work) → is_in k (scope w) ≡ true → is_due (due_in H m w) q ≡ true → DueInside H m k q
-due_in_tx H m k q w is h = by w is h
+pub due_within : (H : List Event) (m k : ℕ) (q : DriverCall) (w : Work) → scope w ≡ Held k → is_due (due_in H m w) q ≡ true → DueInside H m k q
+due_within H m k q w is h = by w is h
   where
-    when : (n : ℕ) (b : Bool) → sends_in H m n ≡ b → n ≡ k → is_due (cond b (line_of H m wishes.Nothing) None) q ≡ true → DueInside H m k q
-    when n true sends same x = record { sends = ap (sends_in H m) (sym same) ∙ sends; due = x }
+    when : (n : ℕ) (b : Bool) → sends_in H m n ≡ b → Held n ≡ Held k → is_due (cond b (line_of H m wishes.Nothing) None) q ≡ true → DueInside H m k q
+    when n true sends same x = let number : n ≡ k = cc in record { sends = ap (sends_in H m) (sym number) ∙ sends; due = x }
     when n false sends same x = absurd cc
 
-    by : (v : Work) → is_in k (scope v) ≡ true → is_due (due_in H m v) q ≡ true → DueInside H m k q
-    by (Statement (Held n) task) same x = when n (sends_in H m n) refl (same_number n k same) x
-    by (Statement (Within pin n) task) same x = when n (sends_in H m n) refl (same_number n k same) x
+    by : (v : Work) → scope v ≡ Held k → is_due (due_in H m v) q ≡ true → DueInside H m k q
+    by (Statement (Held n) task) same x = when n (sends_in H m n) refl same x
     by v same x = absurd cc
 
-pub due_within : (H : List Event) (m k : ℕ) (q : DriverCall) (w : Work) → scope w ≡ Held k → is_due (due_in H m w) q ≡ true → DueInside H m k q
-due_within H m k q w is h = due_in_tx H m k q w (held_in (scope w) k is) h
-
 -- Holds if, for a call in a transaction, something was heard or may come only if the transaction was begun.
-pub record InTx (H : List Event) : Type 0 where
-  pub sent : (m k c : ℕ) → has_sent m (journal H c) ≡ true → is_in k (scope (work H m)) ≡ true → is_begun H k ≡ true
-  pub coming : (e : Entry) (k : ℕ) → may_come H e ≡ true → is_in k (scope (work H e.call_no)) ≡ true → is_begun H k ≡ true
+pub record Inside (H : List Event) : Type 0 where
+  pub sent : (m k c : ℕ) → has_sent m (journal H c) ≡ true → scope (work H m) ≡ Held k → is_begun H k ≡ true
+  pub coming : (e : Entry) (k : ℕ) → may_come H e ≡ true → scope (work H e.call_no) ≡ Held k → is_begun H k ≡ true
 
-pub in_tx_number : (H : List Event) (m k : ℕ) → is_in k (scope (work H m)) ≡ true → (m == 0) ≡ false
-in_tx_number H m k is = by (m == 0) refl
+pub number_not : (H : List Event) (m k : ℕ) → scope (work H m) ≡ Held k → (m == 0) ≡ false
+number_not H m k is = by (m == 0) refl
   where
     by : (b : Bool) → (m == 0) ≡ b → b ≡ false
     by true zero_now =
         let looks : work H m ≡ Look = ap (work H) (same_number m 0 zero_now) ∙ zero_work H in
-        absurd (in_tx_busy (work H m) k is looks)
+        absurd (inside_busy (work H m) k is looks)
     by false other = refl
 
-pub number_not : (H : List Event) (m k : ℕ) → scope (work H m) ≡ Held k → (m == 0) ≡ false
-number_not H m k is = in_tx_number H m k (held_in (scope (work H m)) k is)
-
-due_begun : (H : List Event) (e : Entry) (k : ℕ) → ((m j c : ℕ) → has_sent m (journal H c) ≡ true → is_in j (scope (work H m)) ≡ true → is_begun H j ≡ true) → is_due_at H (place H e.conn) e ≡ true → is_in k (scope (work H e.call_no)) ≡ true → is_begun H k ≡ true
+due_begun : (H : List Event) (e : Entry) (k : ℕ) → ((m j c : ℕ) → has_sent m (journal H c) ≡ true → scope (work H m) ≡ Held j → is_begun H j ≡ true) → is_due_at H (place H e.conn) e ≡ true → scope (work H e.call_no) ≡ Held k → is_begun H k ≡ true
 due_begun H e k sent h is =
     let d = due_now H e h in
-    let some = in_tx_number H e.call_no k is in
-    let its : is_due (due_for H e.call_no) e.call ≡ true = ap (λ b. is_due (cond b (tidying_for H d.owner) (due_for H e.call_no)) e.call) (sym some) ∙ d.due in
+    let some = number_not H e.call_no k is in
+    let its : is_due (due_for H e.call_no) e.call ≡ true = ap (λ b. is_due (cond b (tidying H (number_of d.owner)) (due_for H e.call_no)) e.call) (sym some) ∙ d.due in
     let o = due_of H e.call_no e.call its in
-    let inside = due_in_tx H e.call_no k e.call (work H e.call_no) is o.due in
+    let inside = due_within H e.call_no k e.call (work H e.call_no) is o.due in
     elim (or_cases (has_begun_to_send H e.call_no) (goes_on H k && is_none (decided H e.call_no)) inside.sends) [
       | inl begun ↦ sent e.call_no k (site H e.call_no) begun is
       | inr goes ↦ (let g = both (goes_on H k) (is_none (decided H e.call_no)) goes in let b = both (is_begun H k) (not (is_over H k)) g.0 in b.0)
     ]
 
-still_coming : (H : List Event) (last : Event) → InTx H → ((m k c : ℕ) → has_sent m (journal (last ∷ H) c) ≡ true → is_in k (scope (work (last ∷ H) m)) ≡ true → is_begun (last ∷ H) k ≡ true)
-    → ((e : Entry) (k : ℕ) → may_come H e ≡ true → is_in k (scope (work (last ∷ H) e.call_no)) ≡ true → is_in k (scope (work H e.call_no)) ≡ true) → InTx (last ∷ H)
+still_coming : (H : List Event) (last : Event) → Inside H → ((m k c : ℕ) → has_sent m (journal (last ∷ H) c) ≡ true → scope (work (last ∷ H) m) ≡ Held k → is_begun (last ∷ H) k ≡ true)
+    → ((e : Entry) (k : ℕ) → may_come H e ≡ true → scope (work (last ∷ H) e.call_no) ≡ Held k → scope (work H e.call_no) ≡ Held k) → Inside (last ∷ H)
 still_coming H last i sent before = record { sent = sent; coming = come }
   where
-    come : (e : Entry) (k : ℕ) → may_come (last ∷ H) e ≡ true → is_in k (scope (work (last ∷ H) e.call_no)) ≡ true → is_begun (last ∷ H) k ≡ true
+    come : (e : Entry) (k : ℕ) → may_come (last ∷ H) e ≡ true → scope (work (last ∷ H) e.call_no) ≡ Held k → is_begun (last ∷ H) k ≡ true
     come e k h is =
         elim (or_cases (is_due_at (last ∷ H) (place (last ∷ H) e.conn) e) (not (parts last e) && may_come H e) h) [
           | inl now ↦ due_begun (last ∷ H) e k sent now is
@@ -140,55 +128,42 @@ still_coming H last i sent before = record { sent = sent; coming = come }
         ]
 
 -- If an answer to a call may come, the call worked in the same transaction before the event.
-was_inside : (H : List Event) (last : Event) (e : Entry) (k : ℕ) → may_come H e ≡ true → is_in k (scope (work (last ∷ H) e.call_no)) ≡ true → is_in k (scope (work H e.call_no)) ≡ true
+was_inside : (H : List Event) (last : Event) (e : Entry) (k : ℕ) → may_come H e ≡ true → scope (work (last ∷ H) e.call_no) ≡ Held k → scope (work H e.call_no) ≡ Held k
 was_inside H last e k may is =
-    let some = in_tx_number (last ∷ H) e.call_no k is in
-    sym (ap (λ w. is_in k (scope w)) (of_works.work_stays H last e.call_no (sent_no_look H e may some))) ∙ is
+    let some = number_not (last ∷ H) e.call_no k is in
+    sym (ap scope (of_works.work_stays H last e.call_no (sent_no_look H e may some))) ∙ is
 
-sent_heard : (H : List Event) (e : Entry) → Allowed H (Heard e) → InTx H → (m k c : ℕ) → has_sent m (journal (Heard e ∷ H) c) ≡ true → is_in k (scope (work H m)) ≡ true → is_begun H k ≡ true
+sent_heard : (H : List Event) (e : Entry) → Allowed H (Heard e) → Inside H → (m k c : ℕ) → has_sent m (journal (Heard e ∷ H) c) ≡ true → scope (work H m) ≡ Held k → is_begun H k ≡ true
 sent_heard H e a i m k c h is = by (e.conn == c) (e.call_no == m) refl h
   where
     by : (b own : Bool) → (e.call_no == m) ≡ own → has_sent m (cond b (e ∷ journal H c) (journal H c)) ≡ true → is_begun H k ≡ true
     by true true its x =
         let same = same_number e.call_no m its in
-        let scoped : is_in k (scope (work H e.call_no)) ≡ true = ap (λ j. is_in k (scope (work H j))) same ∙ is in
+        let scoped : scope (work H e.call_no) ≡ Held k = ap (λ j. scope (work H j)) same ∙ is in
         let there = heard_there H e a in
-        i.coming e k (comes H e (place H e.conn) there.sets there.line (in_tx_number H e.call_no k scoped)) scoped
+        i.coming e k (comes H e (place H e.conn) there.sets there.line (number_not H e.call_no k scoped)) scoped
     by true false its x = i.sent m k c (sym (ap (λ b. b || has_sent m (journal H c)) its) ∙ x) is
     by false own its x = i.sent m k c x is
 
-sent_entering : (H : List Event) (client n : ℕ) (op : Op) → Lawful (Entered client n op ∷ H) → InTx H → (m k c : ℕ) → has_sent m (journal H c) ≡ true → is_in k (scope (work (Entered client n op ∷ H) m)) ≡ true → is_begun H k ≡ true
+sent_entering : (H : List Event) (client n : ℕ) (op : Op) → Lawful (Entered client n op ∷ H) → Inside H → (m k c : ℕ) → has_sent m (journal H c) ≡ true → scope (work (Entered client n op ∷ H) m) ≡ Held k → is_begun H k ≡ true
 sent_entering H client n op l i m k c h is =
-    let numbered : m ≢ 0 = λ none. absurd (wrong (ap (λ j. j == 0) none) (in_tx_number (Entered client n op ∷ H) m k is)) in
+    let numbered : m ≢ 0 = λ none. absurd (wrong (ap (λ j. j == 0) none) (number_not (Entered client n op ∷ H) m k is)) in
     let less = sent_entered H c m l.0 numbered h in
     let new = enters_next H client n op l.1 in
-    i.sent m k c h (sym (ap (λ w. is_in k (scope w)) (old_work H client n op m new (λ same. absurd (omega (arith, less, new, same))))) ∙ is)
+    i.sent m k c h (sym (ap scope (old_work H client n op m new (λ same. absurd (omega (arith, less, new, same))))) ∙ is)
   where
     wrong : (m == 0) ≡ true → (m == 0) ≡ false → ⊥
     wrong x y = cc
 
-pub in_tx : (H : List Event) → Lawful H → InTx H
-in_tx [] l = record { sent = λ m k c h is. absurd cc; coming = λ e k h is. absurd cc }
-in_tx (Heard e ∷ H) l =
-    let i = in_tx H l.0 in
-    still_coming H (Heard e) i (λ m k c h is. stays_begun H (Heard e) k (sent_heard H e l.1 i m k c h is)) (was_inside H (Heard e))
-in_tx (Entered client n op ∷ H) l =
-    let i = in_tx H l.0 in
-    still_coming H (Entered client n op) i (λ m k c h is. stays_begun H (Entered client n op) k (sent_entering H client n op l i m k c h is)) (was_inside H (Entered client n op))
-in_tx (e ∷ H) l = let i = in_tx H l.0 in still_coming H e i (λ m k c h is. stays_begun H e k (i.sent m k c h is)) (was_inside H e)
-
--- The same of a transaction with a connection of its own.
-pub record Inside (H : List Event) : Type 0 where
-  pub sent : (m k c : ℕ) → has_sent m (journal H c) ≡ true → scope (work H m) ≡ Held k → is_begun H k ≡ true
-  pub coming : (e : Entry) (k : ℕ) → may_come H e ≡ true → scope (work H e.call_no) ≡ Held k → is_begun H k ≡ true
-
 pub inside : (H : List Event) → Lawful H → Inside H
-inside H l =
-    let i = in_tx H l in
-    record {
-      sent = λ m k c h is. i.sent m k c h (held_in (scope (work H m)) k is);
-      coming = λ e k h is. i.coming e k h (held_in (scope (work H e.call_no)) k is);
-    }
+inside [] l = record { sent = λ m k c h is. absurd cc; coming = λ e k h is. absurd cc }
+inside (Heard e ∷ H) l =
+    let i = inside H l.0 in
+    still_coming H (Heard e) i (λ m k c h is. stays_begun H (Heard e) k (sent_heard H e l.1 i m k c h is)) (was_inside H (Heard e))
+inside (Entered client n op ∷ H) l =
+    let i = inside H l.0 in
+    still_coming H (Entered client n op) i (λ m k c h is. stays_begun H (Entered client n op) k (sent_entering H client n op l i m k c h is)) (was_inside H (Entered client n op))
+inside (e ∷ H) l = let i = inside H l.0 in still_coming H e i (λ m k c h is. stays_begun H e k (i.sent m k c h is)) (was_inside H e)
 
 -- Live rows of a transaction belong to one that goes on.
 
@@ -254,8 +229,7 @@ heard_live H (Statement s (HandOut label)) m (Query input params) (Cursor cursor
 
         by : (t : Scope) → is_in k t ≡ true → is_live (born (is_late H t) (fresh cursor columns)) ≡ true → is_over H k ≡ false
         by (Held j) i x = when (is_over H k) (ap (λ b. is_live (born b (fresh cursor columns))) (ap (is_over H) (sym (same_number j k i))) ∙ x)
-        by (Within pin j) i x = when (is_over H k) (ap (λ b. is_live (born b (fresh cursor columns))) (ap (is_over H) (sym (same_number j k i))) ∙ x)
-        by _ i x = absurd cc
+        by Db i x = absurd cc
 
     more : (S : Made) → live (rows_of n (S ++ (m, born (is_late H s) (fresh cursor columns)) ∷ [])) ≡ true → (live (rows_of n S) ≡ true) ⊎ ((n ≡ m) × ((k : ℕ) → is_in k s ≡ true → is_over H k ≡ false))
     more [] x = by (n == m) refl x
@@ -294,8 +268,9 @@ live_goes (Heard e ∷ H) n k l lives hands = by (live_goes H n k l.0) (heard_li
     going : goes_on H k ≡ true → goes_on (Heard e ∷ H) k ≡ true
     going goes = let b = both (is_begun H k) (not (is_over H k)) goes in still true (heard_tx H e k) b.0 goes
 
-    scoped : (w : Work) → hands_out_in k w ≡ true → is_in k (scope w) ≡ true
-    scoped (Statement s (HandOut label)) x = x
+    scoped : (w : Work) → hands_out_in k w ≡ true → scope w ≡ Held k
+    scoped (Statement (Held j) (HandOut label)) x = ap Held (same_number j k x)
+    scoped (Statement Db (HandOut label)) x = absurd cc
     scoped w x = absurd cc
 
     by : (are_live H n ≡ true → hands_out_in k (work H n) ≡ true → goes_on H k ≡ true) → (live (rows_by H n) ≡ true) ⊎ ((n ≡ e.call_no) × ((j : ℕ) → hands_out_in j (work H e.call_no) ≡ true → is_over H j ≡ false)) → goes_on (Heard e ∷ H) k ≡ true
@@ -303,9 +278,9 @@ live_goes (Heard e ∷ H) n k l lives hands = by (live_goes H n k l.0) (heard_li
     by rest (inr new) =
         let its : hands_out_in k (work H e.call_no) ≡ true = ap (λ j. hands_out_in k (work H j)) (sym new.0) ∙ hands in
         let in_it = scoped (work H e.call_no) its in
-        let i = in_tx H l.0 in
+        let i = inside H l.0 in
         let there = heard_there H e l.1 in
-        let begun = i.coming e k (comes H e (place H e.conn) there.sets there.line (in_tx_number H e.call_no k in_it)) in_it in
+        let begun = i.coming e k (comes H e (place H e.conn) there.sets there.line (number_not H e.call_no k in_it)) in_it in
         going (ap (λ b. b && not (is_over H k)) begun ∙ ap (λ b. not b) (new.1 k its))
 live_goes (Ended ∷ H) n k l lives hands = let wrong : true ≡ false = sym lives ∙ none_at_end H n in absurd cc
 live_goes (_ ∷ H) n k l lives hands = live_goes H n k l.0 lives hands

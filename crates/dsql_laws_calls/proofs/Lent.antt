@@ -1,5 +1,5 @@
 -- A connection stays lent as long as it is in use, and only a Lend makes it lent.
-use Rattle.std.proofs.Common.{◌≡◌, ◌≢◌, ℕ, ◌==◌, ◌⊎◌, inl, inr, Bool, true, false, not, ◌&&◌, ◌||◌, List, ◌∷◌, Option, Some, None, refl, sym, ap, subst, ◌∙◌, arith}
+use Rattle.std.proofs.Common.{◌≡◌, ◌≢◌, ℕ, ◌⊎◌, inl, inr, Bool, true, false, not, ◌||◌, List, ◌∷◌, Option, Some, None, refl, sym, ap, subst, ◌∙◌, arith}
 use Rattle.std.specs.Option.{option_map}
 use Rattle.dsql_laws.specs.journal.declared.entry.Owner.{Owner}
 use Rattle.dsql_laws.specs.journal.Kinds.{is_house, number_of}
@@ -7,7 +7,6 @@ use Rattle.dsql_laws.specs.pool.declared.conn.Conn.{Conn}
 use Rattle.dsql_laws.specs.pool.declared.conn.Place.{Place}
 use Rattle.dsql_laws.specs.pool.declared.conn.Place.TheVariants.{Idle, Lent, Opening, Closing}
 use Rattle.dsql_laws.specs.pool.declared.moves.CloseCause.{CloseCause}
-use Rattle.dsql_laws.specs.journal.declared.entry.Entry.{Entry}
 use Rattle.dsql_laws.specs.pool.declared.moves.Move.{Move}
 use Rattle.dsql_laws.specs.pool.declared.moves.Move.TheVariants.{OpenStart, Lend, Back, CloseStart, Gone, Fell}
 use Rattle.dsql_laws.specs.pool.Changes.{lent, back, closing, conn_changed, gone, unwanted}
@@ -17,7 +16,7 @@ use Rattle.dsql_laws.specs.pool.Moved.{begun, shut}
 use Rattle.dsql_laws.proofs.pool.Found.{KeepsNumber, found_changed}
 use Rattle.dsql_laws_work.proofs.Rows.{same_or_not}
 use Rattle.dsql_laws.specs.history.declared.event.Control.TheVariants.{Tick, Set}
-use Rattle.dsql_laws.proofs.Tests.{both, same_itself}
+use Rattle.dsql_laws.proofs.Tests.{both}
 use Rattle.dsql_laws_calls.proofs.Found.{place_in, uses_in, unwanted_lent, changed_off, gone_at, gone_off, begun_at, begun_off, shut_found, unwanted_in, unwanted_place}
 use Rattle.dsql_laws_calls.proofs.Cases.{true_false, control_conns}
 use Rattle.dsql_laws.specs.history.declared.event.Event.{Event}
@@ -25,7 +24,7 @@ use Rattle.dsql_laws.specs.history.declared.event.Event.TheVariants.{Entered, Po
 use Rattle.dsql_laws.specs.history.declared.event.Op.TheVariants.{DbClose}
 use Rattle.dsql_laws.specs.history.Readers.Pool.{pool, place, uses, wanted_by}
 use Rattle.dsql_laws.specs.history.Rules.Moves.{moves_from, numbers_lending}
-use Rattle.dsql_laws.specs.history.Rules.Line.{is_used, uses_pin, takes_away, parts, leaves_from}
+use Rattle.dsql_laws.specs.history.Rules.Line.{is_used, leaves_from}
 use Rattle.dsql_laws.specs.history.Legal.{Allowed, Lawful}
 use Rattle.dsql_laws_calls.proofs.Born.{born, open_is_old}
 
@@ -49,9 +48,8 @@ close_line H c why a = a.line
 -- A connection that is lent and in use can't leave its owner.
 never_left : (H : List Event) (c t : ℕ) (own : Owner) → place H c ≡ Some (Lent t own) → is_used H (number_of own) ≡ true → leaves_from H (place H c) ≡ true → ⊥
 never_left H c t own is used h =
-    let k = both (not (is_house own)) (not (is_used H (number_of own)) && not (uses_pin H own)) (ap (leaves_from H) (sym is) ∙ h) in
-    let j = both (not (is_used H (number_of own))) (not (uses_pin H own)) k.1 in
-    by (is_used H (number_of own)) used j.0
+    let k = both (not (is_house own)) (not (is_used H (number_of own))) (ap (leaves_from H) (sym is) ∙ h) in
+    by (is_used H (number_of own)) used k.1
   where
     by : (b : Bool) → b ≡ true → not b ≡ true → ⊥
     by true u k = cc
@@ -61,47 +59,15 @@ never_left H c t own is used h =
 pub elsewhere : (H : List Event) (d c t : ℕ) (own : Owner) (test : Option Place → Bool) → place H c ≡ Some (Lent t own) → test (Some (Lent t own)) ≡ false → test (place H d) ≡ true → c ≡ d → ⊥
 elsewhere H d c t own test is not h same = true_false (test (place H d)) h (ap (λ e. test (place H e)) (sym same) ∙ ap test is ∙ not)
 
--- A connection of a pin that is in use can't leave it either.
-never_unpinned : (H : List Event) (c t : ℕ) (own : Owner) → place H c ≡ Some (Lent t own) → uses_pin H own ≡ true → leaves_from H (place H c) ≡ true → ⊥
-never_unpinned H c t own is used h =
-    let k = both (not (is_house own)) (not (is_used H (number_of own)) && not (uses_pin H own)) (ap (leaves_from H) (sym is) ∙ h) in
-    let j = both (not (is_used H (number_of own))) (not (uses_pin H own)) k.1 in
-    by (uses_pin H own) used j.1
-  where
-    by : (b : Bool) → b ≡ true → not b ≡ true → ⊥
-    by true u k = cc
-    by false u k = cc
-
--- Is true if the event takes connection c away from its owner.
-abbrev pub takes : ℕ → Event → Bool
-takes c (Pool m) = takes_away c m
-takes c _ = false
-
--- Holds if connection c stays with this owner at the event. It is in use, also for a pin, or the event doesn't take it
--- away.
-abbrev pub Remains : List Event → Event → ℕ → Owner → Type 0
-Remains H e c own = (is_used H (number_of own) ≡ true) ⊎ ((uses_pin H own ≡ true) ⊎ (takes c e ≡ false))
-
--- An event that doesn't part an entry takes the entry's connection away from nobody.
-pub unparted : (last : Event) (e : Entry) → parts last e ≡ false → takes e.conn last ≡ false
-unparted (Pool m) e on = on
-unparted _ e on = refl
-
--- A move that takes connection d away isn't one that leaves connection c with its owner, if they are the same.
-never_taken : (H : List Event) (e : Event) (d c t : ℕ) (own : Owner) → place H c ≡ Some (Lent t own) → Remains H e c own → takes c e ≡ (d == c) → leaves_from H (place H d) ≡ true → c ≡ d → ⊥
-never_taken H e d c t own is (inl used) its leaves same = never_left H c t own is used (subst (λ x. leaves_from H (place H x) ≡ true) (sym same) leaves)
-never_taken H e d c t own is (inr (inl pinned)) its leaves same = never_unpinned H c t own is pinned (subst (λ x. leaves_from H (place H x) ≡ true) (sym same) leaves)
-never_taken H e d c t own is (inr (inr off)) its leaves same = true_false (d == c) (ap (λ x. x == c) (sym same) ∙ same_itself c) (sym its ∙ off)
-
-kept_move : (H : List Event) (m : Move) (c t : ℕ) (own : Owner) → Lawful H → Allowed H (Pool m) → place H c ≡ Some (Lent t own) → Remains H (Pool m) c own → conn_of c (pool (Pool m ∷ H)).conns ≡ conn_of c (pool H).conns
+kept_move : (H : List Event) (m : Move) (c t : ℕ) (own : Owner) → Lawful H → Allowed H (Pool m) → place H c ≡ Some (Lent t own) → is_used H (number_of own) ≡ true → conn_of c (pool (Pool m ∷ H)).conns ≡ conn_of c (pool H).conns
 kept_move H (OpenStart d k) c t own l a is used = begun_off c (wanted_by H k) (pool H) (open_is_old H c (Lent t own) l is)
 kept_move H (Lend d u o k) c t own l a is used =
     let f = move_facts H (Lend d u o k) a in
     changed_off d c (lent u o (pool H).moment) (pool H).conns (λ x. refl) (elsewhere H d c t own (λ at. is_idle at || is_opening at) is refl f.moves)
 kept_move H (Back d) c t own l a is used =
-    changed_off d c (back (pool H).moment) (pool H).conns (λ x. refl) (never_taken H (Pool (Back d)) d c t own is used refl (back_line H d a))
+    changed_off d c (back (pool H).moment) (pool H).conns (λ x. refl) (λ same. never_left H c t own is used (subst (λ e. leaves_from H (place H e) ≡ true) (sym same) (back_line H d a)))
 kept_move H (CloseStart d why) c t own l a is used =
-    changed_off d c closing (pool H).conns (λ x. refl) (never_taken H (Pool (CloseStart d why)) d c t own is used refl (close_line H d why a))
+    changed_off d c closing (pool H).conns (λ x. refl) (λ same. never_left H c t own is used (subst (λ e. leaves_from H (place H e) ≡ true) (sym same) (close_line H d why a)))
 kept_move H (Gone d) c t own l a is used = let f = move_facts H (Gone d) a in gone_off d c (pool H).conns (elsewhere H d c t own is_closing is refl f.moves)
 kept_move H (Fell d k) c t own l a is used = let f = move_facts H (Fell d k) a in gone_off d c (pool H).conns (elsewhere H d c t own is_opening is refl f.moves)
 
@@ -109,8 +75,8 @@ kept_move H (Fell d k) c t own l a is used = let f = move_facts H (Fell d k) a i
 abbrev StaysAs : Option Conn → Option Conn → Type 0
 StaysAs before after = (after ≡ before) ⊎ (after ≡ option_map unwanted before)
 
--- A connection that remains with its owner stays as it is.
-stays_found : (H : List Event) (e : Event) (c t : ℕ) (own : Owner) → Lawful H → Allowed H e → place H c ≡ Some (Lent t own) → Remains H e c own → StaysAs (conn_of c (pool H).conns) (conn_of c (pool (e ∷ H)).conns)
+-- A connection that is in use stays as it is.
+stays_found : (H : List Event) (e : Event) (c t : ℕ) (own : Owner) → Lawful H → Allowed H e → place H c ≡ Some (Lent t own) → is_used H (number_of own) ≡ true → StaysAs (conn_of c (pool H).conns) (conn_of c (pool (e ∷ H)).conns)
 stays_found H (Pool m) c t own l a is used = inl (kept_move H m c t own l a is used)
 stays_found H (Entered client k DbClose) c t own l a is used = inr (shut_found c (pool H))
 stays_found H Ended c t own l a is used = inr (shut_found c (pool H))
@@ -126,14 +92,11 @@ still_used : (before after : Option Conn) → StaysAs before after → uses_in a
 still_used before after (inl same) = ap uses_in same
 still_used before after (inr shut_now) = let counts = unwanted_lent before in ap uses_in shut_now ∙ counts.1
 
--- A connection that remains with its owner, as one in use does, stays lent, and the number of its uses stays the same.
-pub remains_lent : (H : List Event) (e : Event) (c t : ℕ) (own : Owner) → Lawful H → Allowed H e → place H c ≡ Some (Lent t own) → Remains H e c own → place (e ∷ H) c ≡ Some (Lent t own)
-remains_lent H e c t own l a is used = still_lent (conn_of c (pool H).conns) (conn_of c (pool (e ∷ H)).conns) t own (stays_found H e c t own l a is used) is
-
+-- A connection that is in use stays lent, and the number of its uses stays the same.
 pub stays_lent : (H : List Event) (e : Event) (c t : ℕ) (own : Owner) → Lawful H → Allowed H e → place H c ≡ Some (Lent t own) → is_used H (number_of own) ≡ true → place (e ∷ H) c ≡ Some (Lent t own)
-stays_lent H e c t own l a is used = remains_lent H e c t own l a is (inl used)
+stays_lent H e c t own l a is used = still_lent (conn_of c (pool H).conns) (conn_of c (pool (e ∷ H)).conns) t own (stays_found H e c t own l a is used) is
 
-pub uses_stay : (H : List Event) (e : Event) (c t : ℕ) (own : Owner) → Lawful H → Allowed H e → place H c ≡ Some (Lent t own) → Remains H e c own → uses (e ∷ H) c ≡ uses H c
+pub uses_stay : (H : List Event) (e : Event) (c t : ℕ) (own : Owner) → Lawful H → Allowed H e → place H c ≡ Some (Lent t own) → is_used H (number_of own) ≡ true → uses (e ∷ H) c ≡ uses H c
 uses_stay H e c t own l a is used = still_used (conn_of c (pool H).conns) (conn_of c (pool (e ∷ H)).conns) (stays_found H e c t own l a is used)
 
 -- A lent connection was lent before the event, or the event lends it.

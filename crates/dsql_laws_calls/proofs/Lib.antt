@@ -29,7 +29,6 @@ pub mod Enders
 pub mod Plain
 pub mod Makers
 pub mod Begun
-pub mod Scopes
 pub mod AtEnd
 pub mod Lines
 pub mod Own
@@ -37,8 +36,6 @@ pub mod Idle
 pub mod Told
 pub mod Nowhere
 pub mod TxEnders
-pub mod Wanters
-pub mod Pinnings
 pub mod Ends
 pub mod Tidying
 pub mod Tenures
@@ -63,4 +60,5 @@ pub mod RowsNew
 pub mod Spared
 pub mod Unspoilt
 pub mod FirstAnswers
+pub mod Wanters
 pub mod Itself

@@ -1,6 +1,6 @@
 -- What is sent next on a lent connection, in the line of a call that uses it. This stays the same as long as
 -- nothing is heard there.
-use Rattle.std.proofs.Common.{◌≡◌, ℕ, ◌==◌, inl, Bool, true, false, ◌&&◌, ◌||◌, cond, List, [], ◌∷◌, Option, Some, None, is_some, length, refl, sym, ap, ◌∙◌}
+use Rattle.std.proofs.Common.{◌≡◌, ℕ, ◌==◌, Bool, true, false, ◌&&◌, ◌||◌, cond, List, [], ◌∷◌, Option, Some, None, is_some, length, refl, sym, ap, ◌∙◌}
 use Rattle.std.specs.Prelude.{nat_le}
 use Rattle.dsql_laws.specs.driver.declared.caps.Caps.{Caps}
 use Rattle.dsql_laws.specs.driver.declared.call.DriverCall.{DriverCall}
@@ -24,7 +24,7 @@ use Rattle.dsql_laws.proofs.Tests.{both, same_itself}
 use Rattle.dsql_laws.specs.history.declared.event.Event.{Event}
 use Rattle.dsql_laws.specs.history.declared.event.Event.TheVariants.{Run, Heard}
 use Rattle.dsql_laws.specs.history.declared.work.Scope.{Scope}
-use Rattle.dsql_laws.specs.history.declared.work.Scope.TheVariants.{Db}
+use Rattle.dsql_laws.specs.history.declared.work.Scope.TheVariants.{Db, Held}
 use Rattle.dsql_laws.specs.history.declared.work.Work.{Work}
 use Rattle.dsql_laws.specs.history.declared.work.Work.TheVariants as works_of
 use Rattle.dsql_laws.specs.history.declared.work.Work.TheVariants.{Look}
@@ -38,7 +38,7 @@ use Rattle.dsql_laws.specs.history.Rules.Line.{is_used, parts}
 use Rattle.dsql_laws.specs.history.Rules.Sent.{is_reset_due, asked_by, untested, Sender, sender, line_for, line_with, line_at, line_of}
 use Rattle.dsql_laws.specs.history.Legal.{Allowed, Lawful}
 use Rattle.dsql_laws_calls.proofs.Owners.{at_home}
-use Rattle.dsql_laws_calls.proofs.Lent.{Remains, uses_stay}
+use Rattle.dsql_laws_calls.proofs.Lent.{uses_stay}
 use Rattle.dsql_laws_calls.proofs.Stays.{work_stays, asked_stays}
 
 -- Returns what call n would send next on connection c, given what is wanted of the rows that the call handed
@@ -72,7 +72,7 @@ caps_stay H _ c p a is = refl
 reset_as : (ca cb : Caps) (x y : ℕ) → cb ≡ ca → y ≡ x → (cb.resetter && nat_le 2 y) ≡ (ca.resetter && nat_le 2 x)
 reset_as ca cb x y p q = rw (p, q) refl
 
-pub reset_stays : (H : List Event) (e : Event) (c t : ℕ) (own : Owner) → Lawful H → Allowed H e → place H c ≡ Some (Lent t own) → Remains H e c own → is_reset_due (e ∷ H) c ≡ is_reset_due H c
+pub reset_stays : (H : List Event) (e : Event) (c t : ℕ) (own : Owner) → Lawful H → Allowed H e → place H c ≡ Some (Lent t own) → is_used H (number_of own) ≡ true → is_reset_due (e ∷ H) c ≡ is_reset_due H c
 reset_stays H e c t own l a is used = reset_as (caps H) (caps (e ∷ H)) (uses H c) (uses (e ∷ H) c) (caps_stay H e c (Lent t own) a is) (uses_stay H e c t own l a is used)
 
 -- A call is the same sender in two histories that are alike in everything on which its line depends.
@@ -83,16 +83,12 @@ same_sender H K n c w can reset heard asked its =
     by : (f : Caps → Bool → List Entry → Asked → Work → Sender) (x u : Caps) (y v : Bool) (J M : List Entry) (z s : Asked) (it jt : Work) → u ≡ x → v ≡ y → M ≡ J → s ≡ z → jt ≡ it → f u v M s jt ≡ f x y J z it
     by f x u y v J M z s it jt can reset heard asked its = rw (can, reset, heard, asked, its) refl
 
-pub line_remains : (H : List Event) (e : Event) (c t : ℕ) (own : Owner) (n : ℕ) (w : Wish) → Lawful H → Allowed H e → place H c ≡ Some (Lent t own) → Remains H e c own
+pub line_stays : (H : List Event) (e : Event) (c t : ℕ) (own : Owner) (n : ℕ) (w : Wish) → Lawful H → Allowed H e → place H c ≡ Some (Lent t own) → is_used H (number_of own) ≡ true
     → journal (e ∷ H) c ≡ journal H c → (work H n ≡ Look → ⊥) → line_there (e ∷ H) c t own n w ≡ line_there H c t own n w
-line_remains H e c t own n w l a is used quiet busy =
+line_stays H e c t own n w l a is used quiet busy =
     ap (λ J. line_with (sender (e ∷ H) n c w) (line_in own n (of_tenure t J))) quiet
     ∙ ap (λ S. line_with S (line_in own n (heard_in H c t)))
     (same_sender H (e ∷ H) n c w (caps_stay H e c (Lent t own) a is) (reset_stays H e c t own l a is used) quiet (asked_stays H e n busy) (work_stays H e n busy))
-
-pub line_stays : (H : List Event) (e : Event) (c t : ℕ) (own : Owner) (n : ℕ) (w : Wish) → Lawful H → Allowed H e → place H c ≡ Some (Lent t own) → is_used H (number_of own) ≡ true
-    → journal (e ∷ H) c ≡ journal H c → (work H n ≡ Look → ⊥) → line_there (e ∷ H) c t own n w ≡ line_there H c t own n w
-line_stays H e c t own n w l a is used quiet busy = line_remains H e c t own n w l a is (inl used) quiet busy
 
 -- An event that doesn't part an entry leaves the journal of the entry's connection as it was.
 pub unheard : (H : List Event) (last : Event) (e : Entry) → parts last e ≡ false → journal (last ∷ H) e.conn ≡ journal H e.conn
@@ -128,10 +124,8 @@ after_closes can reset asked (e ∷ earlier) h =
 
 with_closes : (S : Sender) (it : Work) (s : Scope) (L : List Entry) → is_some (line_for it s (record S { wish = wishes.Nothing }) L) ≡ true → is_some (line_for it s (record S { wish = wishes.Close }) L) ≡ true
 with_closes S (works_of.Begin label level read_only) s L h = h
-with_closes S (works_of.BeginOn pin label level read_only) s L h = h
-with_closes S (works_of.Pin label) s L h = h
 with_closes S it Db L h = after_closes S.can S.reset_due S.asked L h
-with_closes S it s L h = inner_closes (untested S.can) S.bad S.asked (exchanges L) (handed S.asked.aim (exchanges L)) h
+with_closes S it (Held k) L h = inner_closes (untested S.can) S.bad S.asked (exchanges L) (handed S.asked.aim (exchanges L)) h
 
 pub closes_too : (H : List Event) (c t : ℕ) (own : Owner) (n : ℕ) → is_some (line_there H c t own n wishes.Nothing) ≡ true → is_some (line_there H c t own n wishes.Close) ≡ true
 closes_too H c t own n h = with_closes (sender H n c wishes.Nothing) (work H n) (scope (work H n)) (line_in own n (heard_in H c t)) h

@@ -1,5 +1,5 @@
 -- Proves which numbers a list has without one of them.
-use Rattle.std.proofs.Common.{◌≡◌, ℕ, not, ◌&&◌, ◌==◌, List, [], ◌∷◌, arith}
+use Rattle.std.proofs.Common.{◌≡◌, ℕ, not, ◌&&◌, ◌||◌, ◌==◌, List, [], ◌∷◌, arith}
 use Rattle.std.proofs.lemmas.Bool.Decides.{nat_tests}
 use Rattle.dsql_laws.specs.journal.Readers.{has}
 use Rattle.dsql_laws.specs.pool.Pooled.{without}

@@ -1,6 +1,6 @@
 -- Proves that every unfinished call that looks at what is there has its reply. The argument is by induction on
 -- the history.
-use Rattle.std.proofs.Common.{◌≡◌, ◌≢◌, ℕ, ◌==◌, ◌⊎◌, inl, inr, Bool, true, false, List, [], ◌∷◌, length, Option, Some, None, is_some, refl, sym, ap, ◌∙◌}
+use Rattle.std.proofs.Common.{◌≡◌, ◌≢◌, ℕ, ◌==◌, ◌⊎◌, inl, inr, true, false, List, [], ◌∷◌, length, Option, Some, None, is_some, refl, sym, ap, ◌∙◌}
 use Rattle.std.specs.Prelude.{Ok, Err}
 use Rattle.dsql_laws.specs.value.declared.value.Value.{Value}
 use Rattle.dsql_laws.specs.scan.declared.dest.Dest.{Dest}
@@ -16,12 +16,7 @@ use Rattle.dsql_laws.specs.history.declared.event.Event.TheVariants.{Entered, He
 use Rattle.dsql_laws.specs.history.declared.event.Op.{Op}
 use Rattle.dsql_laws.specs.history.declared.event.Op.TheVariants as ops
 use Rattle.dsql_laws.specs.history.Readers.Unfinished.{is_unfinished}
-use Rattle.dsql_laws.specs.history.declared.event.Target.{Target}
-use Rattle.dsql_laws.specs.history.declared.event.Target.TheVariants as targets
-use Rattle.dsql_laws.specs.history.declared.work.Work.{Work}
-use Rattle.dsql_laws.specs.history.declared.work.Work.TheVariants.{BeginOn}
-use Rattle.dsql_laws.specs.history.Readers.Works.{works, work, work_at, work_of, begin_of, closing_of, ping_of, tx_maker}
-use Rattle.dsql_laws.specs.driver.declared.call.Level.{Level}
+use Rattle.dsql_laws.specs.history.Readers.Works.{works, work, work_of}
 use Rattle.dsql_laws.specs.history.Readers.Pool.{place}
 use Rattle.dsql_laws.specs.history.Readers.Calls.{calls, decided, told_at_entry, rows_for}
 use Rattle.dsql_laws.specs.history.Readers.Decisions.{told_row, rows_reply, scan_reply}
@@ -49,33 +44,12 @@ told_of_err : (o : Option Rows) (label : List ℕ) → is_some (rows_reply o (op
 told_of_err None label = refl
 told_of_err (Some rows) label = refl
 
--- The operations whose work depends on where it is done don't look.
-
-begins_looking : (ws : List Work) (target : Target) (label : List ℕ) (level : Level) (read_only : Bool) → is_look (begin_of ws target label level read_only) ≡ false
-begins_looking ws targets.Db label level read_only = refl
-begins_looking ws (targets.Label pin) label level read_only = refl
-
-ends_looking : (w : Work) (k : ℕ) → is_look (closing_of w k) ≡ false
-ends_looking (BeginOn pin label level read_only) k = refl
-ends_looking w k = refl
-
-pings_looking : (ws : List Work) (target : Target) → is_look (ping_of ws target) ≡ false
-pings_looking ws targets.Db = refl
-pings_looking ws (targets.Label pin) = refl
-
-never_looks : {A : Type 0} (w : Work) → is_look w ≡ false → is_look w ≡ true → A
-never_looks w not_so so = let wrong : false ≡ true = sym not_so ∙ so in absurd cc
-
 -- An operation that looks at what is there has its reply as it enters.
 told_at_once : (H : List Event) (op : Op) → is_look (work_of (works H) op) ≡ true → is_some (told_at_entry H op) ≡ true
 told_at_once H (ops.Scan rows dests) h = told_of_scan (rows_for H (ops.Scan rows dests)) rows dests
 told_at_once H (ops.Err rows) h = told_of_err (rows_for H (ops.Err rows)) rows
 told_at_once H ops.DbClose h = refl
 told_at_once H ops.Stats h = refl
-told_at_once H (ops.Begin label target level read_only) h = never_looks (begin_of (works H) target label level read_only) (begins_looking (works H) target label level read_only) h
-told_at_once H (ops.Commit tx) h = never_looks (closing_of (work_at (works H) (tx_maker (works H) tx)) (tx_maker (works H) tx)) (ends_looking (work_at (works H) (tx_maker (works H) tx)) (tx_maker (works H) tx)) h
-told_at_once H (ops.Rollback tx) h = never_looks (closing_of (work_at (works H) (tx_maker (works H) tx)) (tx_maker (works H) tx)) (ends_looking (work_at (works H) (tx_maker (works H) tx)) (tx_maker (works H) tx)) h
-told_at_once H (ops.Ping target) h = never_looks (ping_of (works H) target) (pings_looking (works H) target) h
 told_at_once H _ h = absurd cc
 
 -- No answer is heard for a call that looks at what is there.

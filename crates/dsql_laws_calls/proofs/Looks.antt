@@ -14,7 +14,7 @@ use Rattle.dsql_laws.specs.scan.Table.{Scan, scan_of}
 use Rattle.dsql_laws.specs.scan.Rows.{RowScan, row_of, cells_of, with_cell, answers_of, in_32_bits}
 use Rattle.dsql_laws.proofs.scan.TableLaws.{memory_is_no_answer}
 use Rattle.dsql_laws.specs.journal.declared.entry.Entry.{Entry}
-use Rattle.dsql_laws.specs.journal.Kinds.{is_house}
+use Rattle.dsql_laws.specs.journal.Kinds.{is_house, number_of}
 use Rattle.dsql_laws.specs.pool.declared.conn.Place.{Place}
 use Rattle.dsql_laws.specs.pool.declared.conn.Place.TheVariants.{Idle, Lent, Opening, Closing}
 use Rattle.dsql_laws.specs.pool.Pooled.{next_tenure}
@@ -28,7 +28,7 @@ use Rattle.dsql_laws.specs.history.Readers.Works.{work}
 use Rattle.dsql_laws.specs.history.Readers.Pool.{pool, place}
 use Rattle.dsql_laws.specs.history.Readers.Decisions.{told_row}
 use Rattle.dsql_laws.specs.history.Rules.Moves.{hears_in}
-use Rattle.dsql_laws.specs.history.Rules.Line.{is_due, due_in, due_for, due_from, tidying_for, is_at, has_turn, is_numbered, is_due_at, parts, may_come, sends_from}
+use Rattle.dsql_laws.specs.history.Rules.Line.{is_due, due_in, due_for, due_from, tidying, is_at, has_turn, is_due_at, parts, may_come, sends_from}
 use Rattle.dsql_laws.specs.history.Legal.{Allowed}
 use Rattle.dsql_laws_calls.proofs.Works.{is_look, work_stays}
 
@@ -48,12 +48,10 @@ due_no_look H m call h = by (is_unfinished H m) h
 -- If an entry is due at a place and isn't the layer's, its driver call is due for its call.
 pub due_there : (H : List Event) (at : Option Place) (e : Entry) → is_due_at H at e ≡ true → (e.call_no == 0) ≡ false → is_due (due_for H e.call_no) e.call ≡ true
 due_there H (Some (Lent t o)) e h some =
-    let sends = is_due (due_from H e.call_no o) e.call && is_numbered H o e in
-    let a = both (e.tenure == t) (is_at H e.call_no e.conn && (has_turn H e.conn e.call_no && sends)) h in
-    let b = both (is_at H e.call_no e.conn) (has_turn H e.conn e.call_no && sends) a.1 in
-    let c = both (has_turn H e.conn e.call_no) sends b.1 in
-    let d = both (is_due (due_from H e.call_no o) e.call) (is_numbered H o e) c.1 in
-    subst (λ b. is_due (cond b (tidying_for H o) (due_for H e.call_no)) e.call ≡ true) some d.0
+    let a = both (e.tenure == t) (is_at H e.call_no e.conn && (has_turn H e.conn e.call_no && is_due (due_from H e.call_no (number_of o)) e.call)) h in
+    let b = both (is_at H e.call_no e.conn) (has_turn H e.conn e.call_no && is_due (due_from H e.call_no (number_of o)) e.call) a.1 in
+    let c = both (has_turn H e.conn e.call_no) (is_due (due_from H e.call_no (number_of o)) e.call) b.1 in
+    subst (λ b. is_due (cond b (tidying H (number_of o)) (due_for H e.call_no)) e.call ≡ true) some c.1
 due_there H _ e h some = absurd cc
 
 pub sent_no_look : (H : List Event) (e : Entry) → may_come H e ≡ true → (e.call_no == 0) ≡ false → is_look (work H e.call_no) ≡ false

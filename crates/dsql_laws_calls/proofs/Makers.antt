@@ -1,7 +1,6 @@
 -- Rows were handed out by the call that they belong to, and a transaction was begun by the call that has its
 -- number.
 use Rattle.std.proofs.Common.{◌≡◌, ◌≢◌, ℕ, ◌+◌, ◌==◌, ◌⊎◌, inl, inr, Bool, true, false, ◌&&◌, ◌||◌, cond, List, [], ◌∷◌, ◌++◌, map, Option, Some, None, is_some, is_none, refl, sym, ap, ◌∙◌}
-use Rattle.std.specs.Option.{option_map}
 use Rattle.dsql_laws.specs.driver.declared.call.DriverCall.{DriverCall}
 use Rattle.dsql_laws.specs.driver.declared.call.DriverCall.TheVariants.{Query, Next}
 use Rattle.dsql_laws.specs.driver.declared.caps.Caps.{Caps}
@@ -14,9 +13,7 @@ use Rattle.dsql_laws.specs.course.declared.course.Wish.TheVariants as wishes
 use Rattle.dsql_laws.specs.course.Made.{or_else}
 use Rattle.dsql_laws.specs.journal.declared.entry.Entry.{Entry}
 use Rattle.dsql_laws.specs.journal.Kinds.{number_of}
-use Rattle.dsql_laws.specs.journal.declared.entry.Owner.{Owner}
-use Rattle.dsql_laws.specs.journal.declared.entry.Owner.TheVariants as owners
-use Rattle.dsql_laws.specs.journal.Readers.{went_bad, of_transaction}
+use Rattle.dsql_laws.specs.journal.Readers.{went_bad}
 use Rattle.dsql_laws.specs.pool.declared.conn.Place.{Place}
 use Rattle.dsql_laws.specs.pool.declared.conn.Place.TheVariants.{Lent}
 use Rattle.dsql_laws.specs.rows.declared.rows.Rows.{Rows}
@@ -38,7 +35,7 @@ use Rattle.dsql_laws.specs.history.declared.event.Event.TheVariants.{Entered, He
 use Rattle.dsql_laws.specs.history.declared.event.Op.{Op}
 use Rattle.dsql_laws.specs.history.declared.event.Op.TheVariants as ops
 use Rattle.dsql_laws.specs.history.declared.work.Scope.{Scope}
-use Rattle.dsql_laws.specs.history.declared.work.Scope.TheVariants.{Db, Held as In, Pinned, Within}
+use Rattle.dsql_laws.specs.history.declared.work.Scope.TheVariants.{Db, Held as In}
 use Rattle.dsql_laws.specs.history.declared.work.Work.{Work}
 use Rattle.dsql_laws.specs.history.declared.work.Task.TheVariants as tasks
 use Rattle.dsql_laws.specs.history.declared.work.Work.TheVariants as works_of
@@ -50,16 +47,14 @@ use Rattle.dsql_laws.specs.history.Readers.Works.{works, work, rows_maker, tx_ma
 use Rattle.dsql_laws.specs.history.Readers.Journals.{journal, heard_in}
 use Rattle.dsql_laws.specs.history.Readers.Pool.{place, home}
 use Rattle.dsql_laws.specs.history.Readers.Transactions.{tx_end, is_begun, tx_ender}
-use Rattle.dsql_laws.specs.history.Readers.Pins.{pin_end, pin_ender}
 use Rattle.dsql_laws.specs.history.Readers.Calls.{decided}
 use Rattle.dsql_laws.specs.history.Rules.Sent.{line_of, closes, wish, sent_for, close_due}
-use Rattle.dsql_laws.specs.history.Rules.Ending.{first_closing, ended_by_call, end_after, ending_at, ending_with, ending, closing_call, ending_on, ending_within_by, ending_within}
-use Rattle.dsql_laws.specs.history.Rules.Pinned.{Tidying, tidies, kept_by, testing, unpinning_at, unpinning, tidying_of, first_tidying}
-use Rattle.dsql_laws.specs.history.Rules.Line.{due_inside, due_in, due_for, tidying, tidying_pin, tidying_for, is_due, is_due_at, is_numbered, due_from, is_at, has_turn, sends_in, sends_on}
+use Rattle.dsql_laws.specs.history.Rules.Ending.{first_closing, ended_by_call, end_after, ending_at, ending_with, ending}
+use Rattle.dsql_laws.specs.history.Rules.Line.{due_inside, due_in, due_for, tidying, is_due, is_due_at, due_from, is_at, has_turn, sends_in}
 use Rattle.dsql_laws_calls.proofs.EndedRows.{mapped_rows, ender_over}
 use Rattle.dsql_laws_calls.proofs.LiveRows.{live_some, over_some}
 use Rattle.dsql_laws_calls.proofs.Works.{is_look, work_stays}
-use Rattle.dsql_laws_calls.proofs.Plain.{begins_none, starts, no_begin_due, plain_begins, line_of_plain}
+use Rattle.dsql_laws_calls.proofs.Plain.{begins_none, begins, no_begin_due, plain_begins, line_of_plain}
 
 -- The calls that hand rows out.
 
@@ -137,12 +132,12 @@ rows_hand_out (Heard e ∷ H) n h = by (rows_hand_out H n) (some_heard H (work H
 rows_hand_out (Ended ∷ H) n h = rows_hand_out H n (sym (some_mapped (λ k. ended_by (last_end (scope (work H k)))) n (handed_out H)) ∙ h)
 rows_hand_out (_ ∷ H) n h = rows_hand_out H n h
 
-starts_nothing : (it : Work) → hands_out it ≡ true → starts it ≡ false
-starts_nothing (Statement s (HandOut label)) h = refl
-starts_nothing it h = absurd cc
+begins_nothing : (it : Work) → hands_out it ≡ true → begins it ≡ false
+begins_nothing (Statement s (HandOut label)) h = refl
+begins_nothing it h = absurd cc
 
-pub rows_start_nothing : (H : List Event) (n : ℕ) → is_some (rows_by H n) ≡ true → starts (work H n) ≡ false
-rows_start_nothing H n h = starts_nothing (work H n) (rows_hand_out H n h)
+pub rows_begin_nothing : (H : List Event) (n : ℕ) → is_some (rows_by H n) ≡ true → begins (work H n) ≡ false
+rows_begin_nothing H n h = begins_nothing (work H n) (rows_hand_out H n h)
 
 -- If something is sent over rows, those rows were made.
 pub sent_made : (H : List Event) (m k : ℕ) → (m == 0) ≡ false → is_some (sent_for H k (wish H m k)) ≡ true → is_some (rows_by H k) ≡ true
@@ -169,7 +164,7 @@ if_some None h = refl
 if_some (Some q) h = h refl
 
 rows_line : (H : List Event) (n : ℕ) (w : Wish) → is_some (rows_by H n) ≡ true → begins_none (line_of H n w) ≡ true
-rows_line H n w some = plain_begins (line_of H n w) (line_of_plain H n w (rows_start_nothing H n some))
+rows_line H n w some = plain_begins (line_of H n w) (line_of_plain H n w (rows_begin_nothing H n some))
 
 pub sent_begins : (H : List Event) (k : ℕ) (w : Wish) → is_some (rows_by H k) ≡ true → begins_none (sent_for H k w) ≡ true
 sent_begins H k wishes.Nothing some = refl
@@ -222,70 +217,13 @@ ending_begins H k = by (tx_end H k)
     by None = refl
     by (Some end) = at (home H k) end (place H (home H k))
 
--- So is what is sent to end a transaction on a pin, or to give the connection of a pin back.
-
-closing_call_begins : (k : ℕ) (end : TxEnd) (L : List Entry) → begins_none (closing_call k end L) ≡ true
-closing_call_begins k end L = cond_begins (list_any (λ e. is_ending e.call) (of_transaction k L)) None (Some (ended_by_call end)) refl (call_begins end)
-
-ending_within_begins : (H : List Event) (p k : ℕ) → begins_none (ending_within H p k) ≡ true
-ending_within_begins H p k = by (tx_end H k)
-  where
-    at : (c : ℕ) (end : TxEnd) (o : Option Place) → begins_none (ending_on H p k c end o) ≡ true
-    at c end (Some (Lent t o)) =
-        let call = closing_call k end (heard_in H c t) in
-        cond_begins (number_of o == p) (or_else (first_closing H k 0 (works H)) call) None
-        (or_begins (first_closing H k 0 (works H)) call (first_begins H k 0 (works H)) (closing_call_begins k end (heard_in H c t))) refl
-    at c end _ = refl
-
-    by : (o : Option TxEnd) → begins_none (ending_within_by H p k o) ≡ true
-    by None = refl
-    by (Some end) = at (home H p) end (place H (home H p))
-
-unpinning_begins : (H : List Event) (p : ℕ) → begins_none (unpinning H p) ≡ true
-unpinning_begins H p = cond_begins (is_some (pin_end H p) && is_none (kept_by H p)) (unpinning_at H p (home H p) (place H (home H p))) None (at (home H p) (place H (home H p))) refl
-  where
-    at : (c : ℕ) (o : Option Place) → begins_none (unpinning_at H p c o) ≡ true
-    at c (Some (Lent t o)) =
-        let heard = heard_in H c t in
-        cond_begins (number_of o == p) (testing H (went_bad (journal H c)) heard) None
-        (cond_begins (went_bad (journal H c) || list_any (λ e. is_valid e.call) heard) None (test_of (caps H)) refl (test_begins (caps H))) refl
-    at c _ = refl
-
-abbrev tidied : Option Tidying → Option DriverCall
-tidied it = option_map (λ x. x.call) it
-
-tidied_begins : (b : Bool) (tx : ℕ) (d : Option DriverCall) → begins_none d ≡ true → begins_none (tidied (cond b (tidies tx d) None)) ≡ true
-tidied_begins true tx None h = refl
-tidied_begins true tx (Some q) h = h
-tidied_begins false tx d h = refl
-
-or_tidied : (c d : Option Tidying) → begins_none (tidied c) ≡ true → begins_none (tidied d) ≡ true → begins_none (tidied (or_else c d)) ≡ true
-or_tidied None d h k = k
-or_tidied (Some it) d h k = h
-
-tidying_of_begins : (H : List Event) (p k : ℕ) (w : Work) → begins_none (tidied (tidying_of H p k w)) ≡ true
-tidying_of_begins H p k (works_of.Statement (Pinned pin) (tasks.HandOut label)) = tidied_begins ((pin == p) && (ender H k == 0)) 0 (close_due H k) (closing_begins H k)
-tidying_of_begins H p k (works_of.BeginOn pin label level read_only) = tidied_begins ((pin == p) && (tx_ender H k == 0)) k (ending_within H p k) (ending_within_begins H p k)
-tidying_of_begins H p k w = refl
-
-first_tidying_begins : (H : List Event) (p n : ℕ) (ws : List Work) → begins_none (tidied (first_tidying H p n ws)) ≡ true
-first_tidying_begins H p n [] = tidied_begins (pin_ender H p == 0) 0 (unpinning H p) (unpinning_begins H p)
-first_tidying_begins H p n (it ∷ later) = or_tidied (tidying_of H p n it) (first_tidying H p (n + 1) later) (tidying_of_begins H p n it) (first_tidying_begins H p (n + 1) later)
-
-pin_begins : (H : List Event) (o : Owner) → begins_none (tidied (tidying_pin H o)) ≡ true
-pin_begins H (owners.Pin p) = first_tidying_begins H p 0 (works H)
-pin_begins H o = refl
-
 tidying_begins : (H : List Event) (n : ℕ) → begins_none (tidying H n) ≡ true
 tidying_begins H n =
     cond_begins (is_begun H n) (cond (tx_ender H n == 0) (ending H n) None) (cond (ender H n == 0) (close_due H n) None)
     (cond_begins (tx_ender H n == 0) (ending H n) None (ending_begins H n) refl)
     (cond_begins (ender H n == 0) (close_due H n) None (closing_begins H n) refl)
 
-tidying_for_begins : (H : List Event) (o : Owner) → begins_none (tidying_for H o) ≡ true
-tidying_for_begins H o = or_begins (tidying H (number_of o)) (tidied (tidying_pin H o)) (tidying_begins H (number_of o)) (pin_begins H o)
-
-due_begins : (H : List Event) (m : ℕ) → (m == 0) ≡ false → starts (work H m) ≡ false → begins_none (due_for H m) ≡ true
+due_begins : (H : List Event) (m : ℕ) → (m == 0) ≡ false → begins (work H m) ≡ false → begins_none (due_for H m) ≡ true
 due_begins H m some not_begin = cond_begins (is_unfinished H m) (due_in H m (work H m)) None (by (work H m) refl) refl
   where
     own : begins_none (line_of H m wishes.Nothing) ≡ true
@@ -294,8 +232,6 @@ due_begins H m some not_begin = cond_begins (is_unfinished H m) (due_in H m (wor
     inside : (s : Scope) → begins_none (due_inside H m s) ≡ true
     inside Db = own
     inside (In k) = cond_begins (sends_in H m k) (line_of H m wishes.Nothing) None own refl
-    inside (Pinned p) = cond_begins (sends_on H m p) (line_of H m wishes.Nothing) None own refl
-    inside (Within p k) = cond_begins (sends_in H m k) (line_of H m wishes.Nothing) None own refl
 
     over_rows : (k : ℕ) → begins_none (sent_for H k (wish H m k)) ≡ true
     over_rows k = if_some (sent_for H k (wish H m k)) (λ h. sent_begins H k (wish H m k) (sent_made H m k some h))
@@ -304,36 +240,36 @@ due_begins H m some not_begin = cond_begins (is_unfinished H m) (due_in H m (wor
     by (works_of.Fetch k) is = over_rows k
     by (works_of.Close k) is = over_rows k
     by (works_of.End k) is = cond_begins (tx_ender H k == m) (ending H k) None (ending_begins H k) refl
-    by (works_of.EndWithin p k) is = cond_begins (tx_ender H k == m) (ending_within H p k) None (ending_within_begins H p k) refl
-    by (works_of.Unpin p) is = cond_begins (pin_ender H p == m) (unpinning H p) None (unpinning_begins H p) refl
     by works_of.Look is = refl
-    by it is = inside (scope it)
+    by (works_of.Statement s tasks.Execute) is = inside s
+    by (works_of.Statement s (tasks.ReadOne dests)) is = inside s
+    by (works_of.Statement s (tasks.HandOut label)) is = inside s
+    by (works_of.Begin label level read_only) is = inside Db
+    by works_of.Ping is = inside Db
 
-pub begin_due_now : (H : List Event) (at : Option Place) (e : Entry) → is_due_at H at e ≡ true → is_begin e.call ≡ true → starts (work H e.call_no) ≡ true
+pub begin_due_now : (H : List Event) (at : Option Place) (e : Entry) → is_due_at H at e ≡ true → is_begin e.call ≡ true → begins (work H e.call_no) ≡ true
 begin_due_now H (Some (Lent t o)) e h is = whose (e.call_no == 0) refl
   where
-    due : is_due (due_from H e.call_no o) e.call ≡ true
+    due : is_due (due_from H e.call_no (number_of o)) e.call ≡ true
     due =
-        let sends = is_due (due_from H e.call_no o) e.call && is_numbered H o e in
-        let a = both (e.tenure == t) (is_at H e.call_no e.conn && (has_turn H e.conn e.call_no && sends)) h in
-        let b = both (is_at H e.call_no e.conn) (has_turn H e.conn e.call_no && sends) a.1 in
-        let c = both (has_turn H e.conn e.call_no) sends b.1 in
-        let d = both (is_due (due_from H e.call_no o) e.call) (is_numbered H o e) c.1 in
-        d.0
+        let a = both (e.tenure == t) (is_at H e.call_no e.conn && (has_turn H e.conn e.call_no && is_due (due_from H e.call_no (number_of o)) e.call)) h in
+        let b = both (is_at H e.call_no e.conn) (has_turn H e.conn e.call_no && is_due (due_from H e.call_no (number_of o)) e.call) a.1 in
+        let c = both (has_turn H e.conn e.call_no) (is_due (due_from H e.call_no (number_of o)) e.call) b.1 in
+        c.1
 
-    clash : is_begin e.call ≡ false → starts (work H e.call_no) ≡ true
+    clash : is_begin e.call ≡ false → begins (work H e.call_no) ≡ true
     clash k = let wrong : true ≡ false = sym is ∙ k in absurd cc
 
-    whose : (b : Bool) → (e.call_no == 0) ≡ b → starts (work H e.call_no) ≡ true
+    whose : (b : Bool) → (e.call_no == 0) ≡ b → begins (work H e.call_no) ≡ true
     whose true layer =
-        let its : is_due (tidying_for H o) e.call ≡ true = ap (λ b. is_due (cond b (tidying_for H o) (due_for H e.call_no)) e.call) (sym layer) ∙ due in
-        clash (no_begin_due (tidying_for H o) e.call (tidying_for_begins H o) its)
-    whose false some = by (starts (work H e.call_no)) refl
+        let its : is_due (tidying H (number_of o)) e.call ≡ true = ap (λ b. is_due (cond b (tidying H (number_of o)) (due_for H e.call_no)) e.call) (sym layer) ∙ due in
+        clash (no_begin_due (tidying H (number_of o)) e.call (tidying_begins H (number_of o)) its)
+    whose false some = by (begins (work H e.call_no)) refl
       where
         its : is_due (due_for H e.call_no) e.call ≡ true
-        its = ap (λ b. is_due (cond b (tidying_for H o) (due_for H e.call_no)) e.call) (sym some) ∙ due
+        its = ap (λ b. is_due (cond b (tidying H (number_of o)) (due_for H e.call_no)) e.call) (sym some) ∙ due
 
-        by : (b : Bool) → starts (work H e.call_no) ≡ b → starts (work H e.call_no) ≡ true
+        by : (b : Bool) → begins (work H e.call_no) ≡ b → begins (work H e.call_no) ≡ true
         by true it = it
         by false it = clash (no_begin_due (due_for H e.call_no) e.call (due_begins H e.call_no some it) its)
 begin_due_now H _ e h is = absurd cc

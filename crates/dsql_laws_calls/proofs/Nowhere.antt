@@ -9,12 +9,12 @@ use Rattle.dsql_laws.specs.history.Readers.Tries.{try_number, has_a_try, was_ser
 use Rattle.dsql_laws.proofs.Tests.{together}
 use Rattle.dsql_laws_calls.specs.Nothing.{HasNothing, is_elsewhere}
 use Rattle.dsql_laws.specs.history.declared.work.Work.{Work}
-use Rattle.dsql_laws.specs.history.declared.work.Work.TheVariants.{Statement, Begin, Pin, Ping, Close, Look}
+use Rattle.dsql_laws.specs.history.declared.work.Work.TheVariants.{Statement, Begin, Ping, Close, Look}
 use Rattle.dsql_laws.specs.history.Readers.Works.{asks, work}
 use Rattle.dsql_laws.specs.history.declared.event.Event.{Event}
 use Rattle.dsql_laws.specs.history.declared.reply.Reply.{Reply}
 use Rattle.dsql_laws.specs.history.declared.reply.Reply.TheVariants.{DbClosed}
-use Rattle.dsql_laws.specs.history.Readers.Calls.{decided, last_told, told_at_lending, told_by_tries, told_as_pinned, told_of_work, reply_due}
+use Rattle.dsql_laws.specs.history.Readers.Calls.{decided, last_told, told_at_lending, told_by_tries, told_of_work, reply_due}
 use Rattle.dsql_laws.specs.history.Readers.Course.{db_end}
 use Rattle.dsql_laws.specs.history.Readers.HandedOut.{rows_by}
 use Rattle.dsql_laws.specs.history.Readers.Unfinished.{is_unfinished}
@@ -44,16 +44,11 @@ last_fails true true true false o h ha hb hc hd = absurd cc
 
 -- The call asks for a connection.
 
-pub told_own : (H : List Event) (n : ℕ) (w : Work) → asks w ≡ true → was_served (tries H n) ≡ false → told_of_work H n w ≡ told_by_tries H w (tries H n)
-told_own H n (Statement Db task) own none = refl
-told_own H n (Begin label level read_only) own none = refl
-told_own H n Ping own none = refl
-told_own H n (Pin label) own none = by (tries H n) none
-  where
-    by : (ts : List Try) → was_served ts ≡ false → told_as_pinned H (Pin label) ts ≡ told_by_tries H (Pin label) ts
-    by (Served ∷ earlier) is = absurd cc
-    by ts is = refl
-told_own H n w own none = absurd cc
+pub told_own : (H : List Event) (n : ℕ) (w : Work) → asks w ≡ true → told_of_work H n w ≡ told_by_tries H w (tries H n)
+told_own H n (Statement Db task) own = refl
+told_own H n (Begin label level read_only) own = refl
+told_own H n Ping own = refl
+told_own H n w own = absurd cc
 
 may_try_with : (H : List Event) (n : ℕ) → HasNothing H n → has_a_try (tries H n) ≡ true → may_try H n ≡ true
 may_try_with H n none left =
@@ -75,7 +70,7 @@ unserved H n l own u nothing may none = by (has_a_try (tries H n)) refl
         last_fails (is_unfinished H n) (asks (work H n)) (may_try H n) (not (wants n (pool H))) (reply_due H n) may u own (may_try_with H n nothing left) (ap not nothing.unwanting)
     by false last =
         let told : told_of_work H n (work H n) ≡ last_told (tries_again (work H n) (try_number (tries H n))) (try_number (tries H n)) (tries H n) =
-        told_own H n (work H n) own none ∙ ap (λ b. cond b (option_map DbClosed (db_end H)) (last_told (tries_again (work H n) (try_number (tries H n))) (try_number (tries H n)) (tries H n))) last
+        told_own H n (work H n) own ∙ ap (λ b. cond b (option_map DbClosed (db_end H)) (last_told (tries_again (work H n) (try_number (tries H n))) (try_number (tries H n)) (tries H n))) last
         in
         others_settled (decided H n) (told_of_work H n (work H n)) (told_at_lending H n) (ap (λ o. is_some o) told ∙ told_last H (work H n) n (tries H n) l refl last none)
 
@@ -89,7 +84,6 @@ settled_unserved H n l u nothing may none here = by (work H n) refl here
     by : (w : Work) → work H n ≡ w → is_elsewhere w ≡ false → is_some (reply_due H n) ≡ true
     by (Statement Db task) is at = own (Statement Db task) is refl
     by (Begin label level read_only) is at = own (Begin label level read_only) is refl
-    by (Pin label) is at = own (Pin label) is refl
     by Ping is at = own Ping is refl
     by (Close k) is at = others_settled (decided H n) (told_of_work H n (work H n)) (told_at_lending H n) (ap (λ w. is_some (told_of_work H n w)) is)
     by Look is at = own_settled (decided H n) (told_of_work H n (work H n)) (told_at_lending H n) (looked H n l u (ap is_look is))

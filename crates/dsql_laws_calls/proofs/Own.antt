@@ -18,7 +18,7 @@ use Rattle.dsql_laws.proofs.Wanted.{wanted}
 use Rattle.dsql_laws.specs.history.declared.event.Event.{Event}
 use Rattle.dsql_laws.specs.history.declared.work.Scope.TheVariants.{Db}
 use Rattle.dsql_laws.specs.history.declared.work.Work.{Work}
-use Rattle.dsql_laws.specs.history.declared.work.Work.TheVariants.{Statement, Begin, Pin, Ping}
+use Rattle.dsql_laws.specs.history.declared.work.Work.TheVariants.{Statement, Begin, Ping}
 use Rattle.dsql_laws.specs.history.Readers.Unfinished.{is_unfinished}
 use Rattle.dsql_laws.specs.history.Readers.Works.{work, asks, borrower}
 use Rattle.dsql_laws.specs.history.Readers.Pool.{pool, place}
@@ -26,7 +26,7 @@ use Rattle.dsql_laws.specs.history.Readers.Transactions.{is_begun, is_over, goes
 use Rattle.dsql_laws.specs.history.Readers.Calls.{site}
 use Rattle.dsql_laws.specs.history.Rules.Sent.{line_at, line_of}
 use Rattle.dsql_laws.specs.history.Rules.Ending.{ending}
-use Rattle.dsql_laws.specs.history.Rules.Line.{tidying_for, due_in, due_for, due_from, rest_with, rest, is_used, is_at, has_turn, is_due, is_numbered, is_due_at, parts, may_come}
+use Rattle.dsql_laws.specs.history.Rules.Line.{tidying, due_in, due_for, due_from, rest_with, rest, is_used, is_at, has_turn, is_due, is_due_at, parts, may_come}
 use Rattle.dsql_laws.specs.history.Legal.{Lawful}
 use Rattle.dsql_laws_calls.proofs.Owners.{lent_asks}
 use Rattle.dsql_laws_calls.proofs.Lent.{stays_lent}
@@ -48,7 +48,6 @@ asks_own H n own = by (work H n) refl own
     by : (w : Work) → work H n ≡ w → asks w ≡ true → borrower H n ≡ n
     by (Statement Db task) is h = rw is refl
     by (Begin label level read_only) is h = rw is refl
-    by (Pin label) is h = rw is refl
     by Ping is h = rw is refl
     by w is h = absurd cc
 
@@ -103,7 +102,6 @@ own_sends H e u = some_due (line_there H e.conn e.tenure u.owner (number_of u.ow
 pub due_line : (H : List Event) (m : ℕ) (w : Work) → asks w ≡ true → due_in H m w ≡ line_of H m wishes.Nothing
 due_line H m (Statement Db task) own = refl
 due_line H m (Begin label level read_only) own = refl
-due_line H m (Pin label) own = refl
 due_line H m Ping own = refl
 due_line H m w own = absurd cc
 
@@ -129,8 +127,7 @@ pub record DueNow (H : List Event) (e : Entry) : Type 0 where
   pub owner : Owner
   pub lent : place H e.conn ≡ Some (Lent e.tenure owner)
   pub turn : has_turn H e.conn e.call_no ≡ true
-  pub due : is_due (due_from H e.call_no owner) e.call ≡ true
-  pub numbered : is_numbered H owner e ≡ true
+  pub due : is_due (due_from H e.call_no (number_of owner)) e.call ≡ true
   pub site : (e.call_no == 0) ≡ false → site H e.call_no ≡ e.conn
 
 pub due_now : (H : List Event) (e : Entry) → is_due_at H (place H e.conn) e ≡ true → DueNow H e
@@ -138,17 +135,14 @@ due_now H e h = by (place H e.conn) refl h
   where
     by : (p : Option Place) → place H e.conn ≡ p → is_due_at H p e ≡ true → DueNow H e
     by (Some (Lent t o)) is k =
-        let sends = is_due (due_from H e.call_no o) e.call && is_numbered H o e in
-        let a = both (e.tenure == t) (is_at H e.call_no e.conn && (has_turn H e.conn e.call_no && sends)) k in
-        let b = both (is_at H e.call_no e.conn) (has_turn H e.conn e.call_no && sends) a.1 in
-        let c = both (has_turn H e.conn e.call_no) sends b.1 in
-        let d = both (is_due (due_from H e.call_no o) e.call) (is_numbered H o e) c.1 in
+        let a = both (e.tenure == t) (is_at H e.call_no e.conn && (has_turn H e.conn e.call_no && is_due (due_from H e.call_no (number_of o)) e.call)) k in
+        let b = both (is_at H e.call_no e.conn) (has_turn H e.conn e.call_no && is_due (due_from H e.call_no (number_of o)) e.call) a.1 in
+        let c = both (has_turn H e.conn e.call_no) (is_due (due_from H e.call_no (number_of o)) e.call) b.1 in
         record {
           owner = o;
           lent = is ∙ ap (λ u. Some (Lent u o)) (sym (same_number e.tenure t a.0));
           turn = c.0;
-          due = d.0;
-          numbered = d.1;
+          due = c.1;
           site = λ some. same_number (site H e.call_no) e.conn (second_true (site H e.call_no == e.conn) (ap (λ x. x || (site H e.call_no == e.conn)) (sym some) ∙ b.0));
         }
     by _ is k = absurd cc
@@ -169,7 +163,7 @@ pub own_now : (H : List Event) (e : Entry) → Lawful H → (e.call_no == 0) ≡
 own_now H e l some asking h =
     let d = due_now H e h in
     let m = e.call_no in
-    let its : is_due (due_for H m) e.call ≡ true = ap (λ b. is_due (cond b (tidying_for H d.owner) (due_for H m)) e.call) (sym some) ∙ d.due in
+    let its : is_due (due_for H m) e.call ≡ true = ap (λ b. is_due (cond b (tidying H (number_of d.owner)) (due_for H m)) e.call) (sym some) ∙ d.due in
     let k = due_of H m e.call its in
     let sends : is_due (line_of H m wishes.Nothing) e.call ≡ true = sym (ap (λ x. is_due x e.call) (due_line H m (work H m) asking)) ∙ k.due in
     let at = at_its_own H m e.conn e.tenure d.owner (d.site some) d.lent (some_due (line_of H m wishes.Nothing) e.call sends) in

@@ -26,15 +26,15 @@ use Rattle.dsql_laws.specs.works.Exchanges.{exchanges}
 use Rattle.dsql_laws.specs.works.Line.{Asked, test_of, run_for, sent_as, sent_over, handed, found, body_with, body_after, course_of, line_after}
 use Rattle.dsql_laws.specs.history.declared.event.Event.{Event}
 use Rattle.dsql_laws.specs.history.declared.work.Scope.{Scope}
-use Rattle.dsql_laws.specs.history.declared.work.Scope.TheVariants.{Db}
+use Rattle.dsql_laws.specs.history.declared.work.Scope.TheVariants.{Db, Held}
 use Rattle.dsql_laws.specs.history.declared.work.Work.{Work}
 use Rattle.dsql_laws.specs.history.declared.work.Work.TheVariants as works
-use Rattle.dsql_laws.specs.history.Readers.Works.{work, scope, borrower, asks}
+use Rattle.dsql_laws.specs.history.Readers.Works.{work, scope, borrower}
 use Rattle.dsql_laws.specs.history.Readers.Journals.{heard_in}
 use Rattle.dsql_laws.specs.history.Readers.Pool.{place}
 use Rattle.dsql_laws.specs.history.Readers.Lines.{line_in}
 use Rattle.dsql_laws.specs.history.Readers.Calls.{site}
-use Rattle.dsql_laws.specs.history.Rules.Sent.{untested, begin_after, begin_line, pin_line, Sender, sender, line_for, line_with, line_at, line_of}
+use Rattle.dsql_laws.specs.history.Rules.Sent.{untested, begin_after, begin_line, Sender, sender, line_for, line_with, line_at, line_of}
 use Rattle.dsql_laws.specs.history.Rules.Line.{is_due}
 
 -- Is true if the driver call neither begins nor ends a transaction.
@@ -133,45 +133,24 @@ inner_plain : (can : Caps) (bad : Bool) (asked : Asked) (w : Wish) (made : List 
 inner_plain can bad asked w made None = sent_plain can asked (comes_next (course_of asked.aim) can (length asked.params) (found bad) made)
 inner_plain can bad asked w made (Some rows) = over_plain can asked (rows_next_of courses.Query bad w can (length asked.params) made rows)
 
--- Is true if the call begins a transaction on a connection of its own.
+-- Is true if the call begins a transaction.
 abbrev pub begins : Work → Bool
 begins (works.Begin label level read_only) = true
 begins w = false
 
--- Is true if the call begins a transaction, there or on a pin.
-abbrev pub starts : Work → Bool
-starts (works.Begin label level read_only) = true
-starts (works.BeginOn pin label level read_only) = true
-starts w = false
+with_plain : (S : Sender) (it : Work) (s : Scope) (L : List Entry) → begins it ≡ false → is_plain (line_for it s S L) ≡ true
+with_plain S (works.Begin label level read_only) s L not_begin = absurd cc
+with_plain S it Db L not_begin = line_plain S.can S.reset_due S.asked S.wish L
+with_plain S it (Held k) L not_begin = inner_plain (untested S.can) S.bad S.asked S.wish (exchanges L) (handed S.asked.aim (exchanges L))
 
-pub begins_starts : (w : Work) → begins w ≡ true → starts w ≡ true
-begins_starts (works.Begin label level read_only) h = refl
-begins_starts w h = absurd cc
-
--- A call that begins one and asks for a connection begins it there.
-pub starts_own : (w : Work) → asks w ≡ true → starts w ≡ true → begins w ≡ true
-starts_own (works.Begin label level read_only) a h = refl
-starts_own w a h = absurd cc
-
-pin_plain : (reset : Bool) (L : List Entry) → is_plain (pin_line reset L) ≡ true
-pin_plain reset [] = either_plain reset (Some Reset) None refl refl
-pin_plain reset (e ∷ earlier) = refl
-
-with_plain : (S : Sender) (it : Work) (s : Scope) (L : List Entry) → starts it ≡ false → is_plain (line_for it s S L) ≡ true
-with_plain S (works.Begin label level read_only) s L no_start = absurd cc
-with_plain S (works.BeginOn pin label level read_only) s L no_start = absurd cc
-with_plain S (works.Pin label) s L no_start = pin_plain S.reset_due L
-with_plain S it Db L no_start = line_plain S.can S.reset_due S.asked S.wish L
-with_plain S it s L no_start = inner_plain (untested S.can) S.bad S.asked S.wish (exchanges L) (handed S.asked.aim (exchanges L))
-
-at_plain : (H : List Event) (n : ℕ) (w : Wish) (c : ℕ) (at : Option Place) → starts (work H n) ≡ false → is_plain (line_at H n w c at) ≡ true
-at_plain H n w c (Some (Lent t o)) no_start =
+at_plain : (H : List Event) (n : ℕ) (w : Wish) (c : ℕ) (at : Option Place) → begins (work H n) ≡ false → is_plain (line_at H n w c at) ≡ true
+at_plain H n w c (Some (Lent t o)) not_begin =
     let L = line_in o n (heard_in H c t) in
-    either_plain (number_of o == borrower H n) (line_with (sender H n c w) L) None (with_plain (sender H n c w) (work H n) (scope (work H n)) L no_start) refl
-at_plain H n w c _ no_start = refl
+    either_plain (number_of o == borrower H n) (line_with (sender H n c w) L) None (with_plain (sender H n c w) (work H n) (scope (work H n)) L not_begin) refl
+at_plain H n w c _ not_begin = refl
 
-pub line_of_plain : (H : List Event) (n : ℕ) (w : Wish) → starts (work H n) ≡ false → is_plain (line_of H n w) ≡ true
-line_of_plain H n w no_start = at_plain H n w (site H n) (place H (site H n)) no_start
+pub line_of_plain : (H : List Event) (n : ℕ) (w : Wish) → begins (work H n) ≡ false → is_plain (line_of H n w) ≡ true
+line_of_plain H n w not_begin = at_plain H n w (site H n) (place H (site H n)) not_begin
 
 -- No line ends a transaction.
 
@@ -188,7 +167,6 @@ begin_ends can reset level read_only (e ∷ earlier) =
 
 for_ends : (S : Sender) (it : Work) (s : Scope) (L : List Entry) → ends_none (line_for it s S L) ≡ true
 for_ends S (works.Begin label level read_only) s L = begin_ends S.can S.reset_due level read_only L
-for_ends S (works.BeginOn pin label level read_only) s L = begin_ends (untested S.can) false level read_only L
 for_ends S it s L = plain_ends (line_for it s S L) (with_plain S it s L refl)
 
 pub with_ends : (S : Sender) (L : List Entry) → ends_none (line_with S L) ≡ true

@@ -14,13 +14,13 @@ use Rattle.dsql_laws.specs.works.HandedOut.{Made}
 use Rattle.dsql_laws.specs.history.Readers.HandedOut.{live, rows_heard, rows_entered, handed_out, are_live, caller, ended_at, ender, born, is_late, end_in, ended_with, last_end, rows_by}
 use Rattle.dsql_laws.specs.history.declared.work.Work.{Work}
 use Rattle.dsql_laws.specs.history.declared.work.Task.TheVariants.{HandOut}
-use Rattle.dsql_laws.specs.history.declared.work.Work.TheVariants.{Statement, BeginOn, Fetch, Close, End, EndWithin}
+use Rattle.dsql_laws.specs.history.declared.work.Work.TheVariants.{Statement, Fetch, Close, End}
 use Rattle.dsql_laws.specs.history.declared.event.Event.{Event}
 use Rattle.dsql_laws.specs.history.declared.event.Event.TheVariants.{Entered, Heard, Ended}
 use Rattle.dsql_laws.specs.history.declared.event.Op.{Op}
 use Rattle.dsql_laws.specs.history.declared.event.Op.TheVariants as ops
 use Rattle.dsql_laws.specs.history.Readers.Unfinished.{is_unfinished}
-use Rattle.dsql_laws.specs.history.Readers.Works.{works, work, work_at, work_of, closing_of, rows_maker, tx_maker, scope, hands_out_in}
+use Rattle.dsql_laws.specs.history.Readers.Works.{works, work, work_of, rows_maker, tx_maker, scope, hands_out_in}
 use Rattle.dsql_laws.specs.history.Legal.{Lawful}
 use Rattle.dsql_laws_calls.proofs.Works.{is_look, work_stays, enters_next, new_work}
 use Rattle.std.specs.Option.{option_map}
@@ -106,21 +106,16 @@ abbrev pub is_worker : Work → Bool
 is_worker (Fetch k) = true
 is_worker (Close k) = true
 is_worker (End k) = true
-is_worker (EndWithin pin k) = true
 is_worker _ = false
 
 never : true ≡ false → ⊥
 never h = cc
 
-pub closing_works : (w : Work) (k : ℕ) → is_worker (closing_of w k) ≡ true
-closing_works (BeginOn pin label level read_only) k = refl
-closing_works w k = refl
-
 closes_only : (H : List Event) (op : Op) (n : ℕ) → are_live H n ≡ true → are_live_in n (rows_entered H op (handed_out H)) ≡ false → is_worker (work_of (works H) op) ≡ true
 closes_only H (ops.RowsClose label) n was now = refl
 closes_only H (ops.Next rows) n was now = refl
-closes_only H (ops.Commit tx) n was now = closing_works (work_at (works H) (tx_maker (works H) tx)) (tx_maker (works H) tx)
-closes_only H (ops.Rollback tx) n was now = closing_works (work_at (works H) (tx_maker (works H) tx)) (tx_maker (works H) tx)
+closes_only H (ops.Commit tx) n was now = refl
+closes_only H (ops.Rollback tx) n was now = refl
 closes_only H op n was now = absurd (never (sym was ∙ now))
 
 fetches_only : (H : List Event) (it : Work) (m : ℕ) (q : DriverCall) (a : DriverAnswer) (R : Made) (n : ℕ) → are_live_in n R ≡ true → are_live_in n (rows_heard H it m q a R) ≡ false → is_worker it ≡ true
@@ -142,7 +137,6 @@ pub worker_sends : (w : Work) → is_worker w ≡ true → is_look w ≡ false
 worker_sends (Fetch k) h = refl
 worker_sends (Close k) h = refl
 worker_sends (End k) h = refl
-worker_sends (EndWithin pin k) h = refl
 worker_sends _ h = absurd cc
 
 -- Every call that has ended rows fetches from them, closes them, or ends their transaction.

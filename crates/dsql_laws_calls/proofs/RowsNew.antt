@@ -29,7 +29,7 @@ use Rattle.dsql_laws.proofs.Tests.{same_number, same_itself}
 use Rattle.dsql_laws.proofs.Wanted.{wanted}
 use Rattle.dsql_laws.specs.history.declared.event.Event.{Event}
 use Rattle.dsql_laws.specs.history.declared.event.Event.TheVariants.{Run, Entered, Heard, Pool, Waits, Ticked, SetLimit, Replied, Ended}
-use Rattle.dsql_laws.specs.history.declared.work.Scope.TheVariants.{Db, Held, Pinned, Within}
+use Rattle.dsql_laws.specs.history.declared.work.Scope.TheVariants.{Db, Held}
 use Rattle.dsql_laws.specs.history.declared.work.Work.{Work}
 use Rattle.dsql_laws.specs.history.declared.work.Task.TheVariants.{HandOut}
 use Rattle.dsql_laws.specs.history.declared.work.Work.TheVariants.{Statement, Fetch}
@@ -51,9 +51,6 @@ use Rattle.dsql_laws_calls.proofs.Makers.{hands_out, rows_hand_out, some_entered
 use Rattle.dsql_laws_calls.proofs.Plain.{line_plain}
 use Rattle.dsql_laws_calls.proofs.Begun.{begun_begins}
 use Rattle.dsql_laws_calls.proofs.Beginnings.{begin_owner}
-use Rattle.dsql_laws_calls.proofs.Scopes.{pin_of, pin_owner}
-use Rattle.dsql_laws_calls.proofs.DueWay.{call_no_pin}
-use Rattle.dsql_laws.specs.history.declared.work.Task.{Task}
 use Rattle.dsql_laws_calls.proofs.BeginningsAt.{is_answer, heard_more, heard_other}
 use Rattle.dsql_laws_calls.proofs.Own.{asks_own}
 use Rattle.dsql_laws_calls.proofs.HandedRows.{rows_begun}
@@ -206,24 +203,13 @@ rows_new H e own input params l h is call query = by (rows_by H e.call_no) refl
     some_cursor None k = absurd cc
     some_cursor (Some r) k = (r, refl)
 
-    uses_pinned : {p : ℕ} {task : Task} → work H e.call_no ≡ Statement (Pinned p) task → borrower H e.call_no ≡ p
-    uses_pinned its = rw its refl
-
-    uses_within : {p k : ℕ} {task : Task} → work H e.call_no ≡ Statement (Within p k) task → borrower H e.call_no ≡ p
-    uses_within its = rw its refl
-
-    on_pin : (v : UnderWay H e) → v.owner ≡ own → e.call_no ≢ 0 → pin_of (work H e.call_no) ≡ borrower H e.call_no → ⊥
-    on_pin v same numbered_so uses =
-        let number : borrower H e.call_no ≡ number_of own = v.borrowed numbered_so ∙ ap number_of same in
-        wrong (sym (pin_owner H e.conn e.tenure own e.call_no l is (uses ∙ number)) ∙ call_no_pin own call)
-
     contradiction : (v : UnderWay H e) → v.owner ≡ own → e.call_no ≢ 0 → (w : Work) → work H e.call_no ≡ w → hands_out w ≡ true → is_some (rows_by H e.call_no) ≡ true → ⊥
     contradiction v same numbered_so (Statement (Held k) (HandOut label)) its x some =
         let begun = rows_begun H e.call_no k l some (ap (hands_out_in k) its ∙ same_itself k) in
         let uses : borrower H e.call_no ≡ k = rw its refl in
         let number : number_of own ≡ k = ap number_of (sym same) ∙ (sym (v.borrowed numbered_so) ∙ uses) in
         let mine : is_begun H (number_of own) ≡ true = ap (is_begun H) number ∙ begun in
-        wrong (sym call ∙ begin_owner H e.conn e.tenure own l is (begun_begins H (number_of own) l (lent_asks H e.conn e.tenure own l is) mine))
+        wrong (sym call ∙ begin_owner H e.conn e.tenure own l is (begun_begins H (number_of own) l mine))
     contradiction v same numbered_so (Statement Db (HandOut label)) its x some =
         let uses : borrower H e.call_no ≡ e.call_no = rw its refl in
         let number : number_of v.owner ≡ e.call_no = sym (v.borrowed numbered_so) ∙ uses in
@@ -238,8 +224,6 @@ rows_new H e own input params l h is call query = by (rows_by H e.call_no) refl
         let sent = plain_due (call_line H e.conn e.tenure v.owner line.0) e.call (line_plain (caps H) (is_reset_due H e.conn) asked line.0 L) line.1 in
         due_over (caps H) (is_reset_due H e.conn) asked line.0 L (Query input params) cursor.0 (ap (λ a. handed a (exchanges L)) aim ∙ cursor.1) (f.made e.conn e.tenure v.owner v.lent (ap is_call same ∙ call))
         (ap (λ q. is_due_in_line (call_line H e.conn e.tenure v.owner line.0) q) (sym query) ∙ sent)
-    contradiction v same numbered_so (Statement (Pinned p) (HandOut label)) its x some = on_pin v same numbered_so (ap pin_of its ∙ sym (uses_pinned its))
-    contradiction v same numbered_so (Statement (Within p k) (HandOut label)) its x some = on_pin v same numbered_so (ap pin_of its ∙ sym (uses_within its))
     contradiction v same numbered_so w its x some = absurd cc
 
     by : (o : Option Rows) → rows_by H e.call_no ≡ o → rows_by H e.call_no ≡ None

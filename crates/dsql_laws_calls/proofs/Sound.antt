@@ -6,7 +6,7 @@ use Rattle.dsql_laws.specs.course.declared.course.Wish.TheVariants as wishes
 use Rattle.dsql_laws.specs.course.Made.{Exchange, own_cursor, or_else}
 use Rattle.dsql_laws.specs.journal.declared.entry.Entry.{Entry}
 use Rattle.dsql_laws.specs.journal.declared.entry.Owner.{Owner}
-use Rattle.dsql_laws.specs.journal.Kinds.{is_call, number_of, is_pin}
+use Rattle.dsql_laws.specs.journal.Kinds.{is_call, number_of}
 use Rattle.dsql_laws.specs.journal.Readers.{went_bad, of_tenure}
 use Rattle.dsql_laws.specs.pool.declared.conn.Place.TheVariants.{Lent}
 use Rattle.dsql_laws.specs.works.Exchanges.{exchanges, step_of, with_exchange, got_of}
@@ -101,8 +101,8 @@ made_none can asked L none = rw none refl
 
 -- The event leaves the connection's journal as it was.
 
-pub ends_same : (H : List Event) (e : Event) → Sound H → (c t : ℕ) (own : Owner) → place H c ≡ Some (Lent t own) → journal (e ∷ H) c ≡ journal H c → is_pin own ≡ false → is_over (e ∷ H) (number_of own) ≡ false → ended_there (heard_in (e ∷ H) c t) ≡ false
-ends_same H e s c t own is J off on = let f = s.facts in ap (λ L. ended_there (of_tenure t L)) J ∙ f.ends c t own is off (was_over H e (number_of own) on)
+pub ends_same : (H : List Event) (e : Event) → Sound H → (c t : ℕ) (own : Owner) → place H c ≡ Some (Lent t own) → journal (e ∷ H) c ≡ journal H c → is_over (e ∷ H) (number_of own) ≡ false → ended_there (heard_in (e ∷ H) c t) ≡ false
+ends_same H e s c t own is J on = let f = s.facts in ap (λ L. ended_there (of_tenure t L)) J ∙ f.ends c t own is (was_over H e (number_of own) on)
 
 pub going_same : (H : List Event) (e : Event) → Lawful (e ∷ H) → Sound H → (c t : ℕ) (own : Owner) → place H c ≡ Some (Lent t own) → journal (e ∷ H) c ≡ journal H c → (m : ℕ) → scope (work (e ∷ H) m) ≡ Held (number_of own)
     → is_unfinished (e ∷ H) m ≡ true → has_sent m (journal (e ∷ H) c) ≡ true → Going (e ∷ H) c t m
@@ -125,9 +125,9 @@ made_same H e l s c t own is J call =
 
 pub quiet_facts : (H : List Event) (e : Event) → Lawful (e ∷ H) → is_answer e ≡ false → Sound H → Facts (e ∷ H)
 quiet_facts H e l none s = record {
-  ends = λ c t own is off on.
+  ends = λ c t own is on.
       elim (lent_before H e c t own l.0 is) [
-        | inl before ↦ ends_same H e s c t own before (heard_same H e c none) off on
+        | inl before ↦ ends_same H e s c t own before (heard_same H e c none) on
         | inr w ↦ ap ended_there (fresh c t own w.0 w.1)
       ];
   going = λ c t own is m inner u sent.
@@ -171,13 +171,13 @@ was_under_way H e t own a s is =
     let same = same_lent e.tenure t u.owner own (sym u.lent ∙ is) in
     record { way = u; owner = same.1 }
 
-pub ends_heard : (H : List Event) (e : Entry) → Lawful (Heard e ∷ H) → Sound H → (c t : ℕ) (own : Owner) → place H c ≡ Some (Lent t own) → e.conn ≡ c → is_pin own ≡ false → is_over (Heard e ∷ H) (number_of own) ≡ false → ended_there (heard_in (Heard e ∷ H) c t) ≡ false
-ends_heard H e l s c t own is here off on =
+pub ends_heard : (H : List Event) (e : Entry) → Lawful (Heard e ∷ H) → Sound H → (c t : ℕ) (own : Owner) → place H c ≡ Some (Lent t own) → e.conn ≡ c → is_over (Heard e ∷ H) (number_of own) ≡ false → ended_there (heard_in (Heard e ∷ H) c t) ≡ false
+ends_heard H e l s c t own is here on =
     let f = s.facts in
     let w = was_under_way H e t own l.1 s (ap (place H) here ∙ is) in
     let u = w.way in
     let before = was_over H (Heard e) (number_of own) on in
-    ap ended_there (heard_more H e c t own l.1 is here) ∙ by (is_ending e.call) refl (λ h. clash (sym (ap (λ o. is_over H (number_of o)) (sym w.owner) ∙ u.ending (ap is_pin w.owner ∙ off) h) ∙ before)) (f.ends c t own is off before)
+    ap ended_there (heard_more H e c t own l.1 is here) ∙ by (is_ending e.call) refl (λ h. clash (sym (ap (λ o. is_over H (number_of o)) (sym w.owner) ∙ u.ending h) ∙ before)) (f.ends c t own is before)
   where
     by : (b : Bool) → is_ending e.call ≡ b → (is_ending e.call ≡ true → b ≡ false) → ended_there (heard_in H c t) ≡ false → (is_ending e.call || ended_there (heard_in H c t)) ≡ false
     by true i h k = let x = h i in absurd cc
@@ -299,7 +299,7 @@ going_other H e c t own m l s p other (inr (inl n)) = by (handed_there H c t m) 
             (subst (λ d. is_some (line_there H d e.tenure u.owner m wishes.Nothing) ≡ false) p.here none))
 
     not_call : is_call own ≡ false
-    not_call = begin_owner H c t own l.0 p.lent (begun_begins H (number_of own) l.0 (lent_asks H c t own l.0 p.lent) p.begun)
+    not_call = begin_owner H c t own l.0 p.lent (begun_begins H (number_of own) l.0 p.begun)
 
     by : (b : Bool) → handed_there H c t m ≡ b → Going (Heard e ∷ H) c t m
     by true is = going_handed H e c t own m l p is
@@ -315,14 +315,14 @@ going_own : (H : List Event) (e : Entry) (c t : ℕ) (own : Owner) (m : ℕ) →
 going_own H e c t own m l p its way before = by way.left
   where
     not_call : is_call own ≡ false
-    not_call = begin_owner H c t own l.0 p.lent (begun_begins H (number_of own) l.0 (lent_asks H c t own l.0 p.lent) p.begun)
+    not_call = begin_owner H c t own l.0 p.lent (begun_begins H (number_of own) l.0 p.begun)
 
     unending : is_ending e.call ≡ false
     unending = no_ending_due (line_there H c t own m wishes.Nothing) e.call (with_ends (sender H m c wishes.Nothing) (line_in own m (heard_in H c t))) way.due
 
     some_line : is_some (inner_after (caps H) (went_bad (journal H c)) (asked_by H m) wishes.Nothing (line_among m (heard_in H c t))) ≡ true
     some_line =
-        sym (inner_line H c t own m wishes.Nothing (number_of own) (begin_owner H c t own l.0 p.lent (begun_begins H (number_of own) l.0 (lent_asks H c t own l.0 p.lent) p.begun)) p.inner)
+        sym (inner_line H c t own m wishes.Nothing (number_of own) (begin_owner H c t own l.0 p.lent (begun_begins H (number_of own) l.0 p.begun)) p.inner)
         ∙ some_due (line_there H c t own m wishes.Nothing) e.call way.due
 
     -- The call's driver calls have come in their order so far.

@@ -14,7 +14,7 @@ use Rattle.dsql_laws.specs.history.declared.event.Event.{Event}
 use Rattle.dsql_laws.specs.history.declared.work.Scope.TheVariants.{Held}
 use Rattle.dsql_laws.specs.history.declared.work.Work.{Work}
 use Rattle.dsql_laws.specs.history.declared.work.Task.TheVariants.{HandOut}
-use Rattle.dsql_laws.specs.history.declared.work.Work.TheVariants.{Statement, Fetch, Close}
+use Rattle.dsql_laws.specs.history.declared.work.Work.TheVariants.{Statement, Begin, Ping, Fetch, Close, End, Look}
 use Rattle.dsql_laws.specs.history.Readers.Unfinished.{is_unfinished}
 use Rattle.dsql_laws.specs.history.Readers.Works.{work, scope, borrower, aim_of}
 use Rattle.dsql_laws.specs.history.Readers.Journals.{journal, heard_in}
@@ -25,13 +25,13 @@ use Rattle.dsql_laws.specs.history.Rules.Line.{is_due, parts, may_come}
 use Rattle.dsql_laws.specs.history.Legal.{Lawful, Allowed}
 use Rattle.dsql_laws_calls.proofs.Owners.{lent_asks}
 use Rattle.dsql_laws_calls.proofs.Makers.{hands_out, rows_hand_out}
-use Rattle.dsql_laws_calls.proofs.Lines.{line_there, line_remains, unheard}
+use Rattle.dsql_laws_calls.proofs.Lines.{line_there, line_stays, unheard}
 use Rattle.dsql_laws_calls.proofs.Inside.{inside_busy, number_not}
 use Rattle.dsql_laws_calls.proofs.CallTenures.{call_line, line_of_call}
-use Rattle.dsql_laws_calls.proofs.Why.{ended_there, why_stays}
+use Rattle.dsql_laws_calls.proofs.Why.{ended_there, why_used, why_stays}
 use Rattle.dsql_laws.specs.history.declared.event.Event.TheVariants.{Entered}
 use Rattle.dsql_laws.specs.history.Readers.Calls.{calls}
-use Rattle.dsql_laws_calls.proofs.Lent.{Remains, unparted, remains_lent}
+use Rattle.dsql_laws_calls.proofs.Lent.{stays_lent}
 use Rattle.dsql_laws_calls.proofs.Stays.{not_looking, unfinished_stays}
 use Rattle.dsql_laws_calls.proofs.EndedRows.{rows_kept}
 use Rattle.dsql_laws_calls.proofs.Works as of_works
@@ -62,7 +62,11 @@ borrower_stays H last m same rows = by (work H m) refl
     by : (w : Work) → work H m ≡ w → borrower (last ∷ H) m ≡ borrower H m
     by (Fetch j) is = let now : work (last ∷ H) m ≡ Fetch j = same ∙ is in let other = rows j (inl is) in rw (now, is, other) refl
     by (Close j) is = let now : work (last ∷ H) m ≡ Close j = same ∙ is in let other = rows j (inr is) in rw (now, is, other) refl
-    by w is = let now : work (last ∷ H) m ≡ w = same ∙ is in rw (now, is) refl
+    by (End j) is = let now : work (last ∷ H) m ≡ End j = same ∙ is in rw (now, is) refl
+    by (Statement s task) is = let now : work (last ∷ H) m ≡ Statement s task = same ∙ is in rw (now, is) refl
+    by (Begin label level read_only) is = let now : work (last ∷ H) m ≡ Begin label level read_only = same ∙ is in rw (now, is) refl
+    by Ping is = let now : work (last ∷ H) m ≡ Ping = same ∙ is in rw (now, is) refl
+    by Look is = let now : work (last ∷ H) m ≡ Look = same ∙ is in rw (now, is) refl
 
 rows_work : (H : List Event) (last : Event) (j : ℕ) → is_some (rows_by H j) ≡ true → work (last ∷ H) j ≡ work H j
 rows_work H last j some = of_works.work_stays H last j (busy (work H j) (rows_hand_out H j some))
@@ -86,18 +90,15 @@ stays_under_way H last e l on may u = record {
   borrowed = λ some. borrower_stays H last e.call_no same (λ j which. rows_work H last j (u.rowed j which)) ∙ u.borrowed some;
   unfinished = λ some. unfinished_stays H last e on (u.unfinished some);
   rowed = λ j which. rowed j which;
-  why = λ pin. why_stays H last e u.owner l u.lent on (u.why pin);
-  ending = λ pin h. stays_over H last (number_of u.owner) (u.ending pin h);
+  why = why_stays H last e u.owner l u.lent on u.why;
+  ending = λ h. stays_over H last (number_of u.owner) (u.ending h);
   within = λ s. within (sym (ap scope same) ∙ s);
   line = λ call. line call;
   turn = turn;
 }
   where
-    remains : Remains H last e.conn u.owner
-    remains = inr (inr (unparted last e on))
-
     lent : place (last ∷ H) e.conn ≡ Some (Lent e.tenure u.owner)
-    lent = remains_lent H last e.conn e.tenure u.owner l.0 l.1 u.lent remains
+    lent = stays_lent H last e.conn e.tenure u.owner l.0 l.1 u.lent (why_used H e.conn e.tenure u.owner e.call_no l.0 u.lent u.why)
 
     same : work (last ∷ H) e.call_no ≡ work H e.call_no
     same = coming_work H last e may
@@ -110,7 +111,7 @@ stays_under_way H last e l on may u = record {
     within s =
         let i = u.within s in
         record {
-          due = ap (λ o. is_due o e.call) (line_remains H last e.conn e.tenure u.owner e.call_no wishes.Nothing l.0 l.1 u.lent remains (unheard H last e on) (inside_busy (work H e.call_no) (number_of u.owner) s)) ∙ i.due;
+          due = ap (λ o. is_due o e.call) (line_stays H last e.conn e.tenure u.owner e.call_no wishes.Nothing l.0 l.1 u.lent (why_used H e.conn e.tenure u.owner e.call_no l.0 u.lent u.why) (unheard H last e on) (inside_busy (work H e.call_no) (number_of u.owner) s)) ∙ i.due;
           left = left i.left;
         }
       where
@@ -126,8 +127,8 @@ stays_under_way H last e l on may u = record {
         let x = u.line call in
         let busy = not_looking (work H (number_of u.owner)) (lent_asks H e.conn e.tenure u.owner l.0 u.lent) in (
           x.0,
-          ap (λ o. is_due o e.call) (sym (line_of_call (last ∷ H) e.conn e.tenure u.owner x.0 l lent call)
-              ∙ (line_remains H last e.conn e.tenure u.owner (number_of u.owner) x.0 l.0 l.1 u.lent remains (unheard H last e on) busy ∙ line_of_call H e.conn e.tenure u.owner x.0 l.0 u.lent call)) ∙ x.1,
+          ap (λ o. is_due o e.call) (sym (line_of_call (last ∷ H) e.conn e.tenure u.owner x.0 l (stays_lent H last e.conn e.tenure u.owner l.0 l.1 u.lent (why_used H e.conn e.tenure u.owner e.call_no l.0 u.lent u.why)) call)
+              ∙ (line_stays H last e.conn e.tenure u.owner (number_of u.owner) x.0 l.0 l.1 u.lent (why_used H e.conn e.tenure u.owner e.call_no l.0 u.lent u.why) (unheard H last e on) busy ∙ line_of_call H e.conn e.tenure u.owner x.0 l.0 u.lent call)) ∙ x.1,
         )
 
     turn : (m : ℕ) → m ≢ e.call_no → newest_sender (heard_in (last ∷ H) e.conn e.tenure) ≡ m → scope (work (last ∷ H) m) ≡ Held (number_of u.owner) → is_unfinished (last ∷ H) m ≡ true → is_some (line_there (last ∷ H) e.conn e.tenure u.owner m wishes.Nothing) ≡ false
@@ -138,7 +139,7 @@ stays_under_way H last e l on may u = record {
         let was = sender_work H last m e.conn (number_of u.owner) l sent s in
         let scoped_so : scope (work H m) ≡ Held (number_of u.owner) = sym (ap scope was) ∙ s in
         let busy = inside_busy (work H m) (number_of u.owner) scoped_so in
-        ap (λ o. is_some o) (line_remains H last e.conn e.tenure u.owner m wishes.Nothing l.0 l.1 u.lent remains (unheard H last e on) busy)
+        ap (λ o. is_some o) (line_stays H last e.conn e.tenure u.owner m wishes.Nothing l.0 l.1 u.lent (why_used H e.conn e.tenure u.owner e.call_no l.0 u.lent u.why) (unheard H last e on) busy)
         ∙ u.turn m apart before scoped_so (was_unfinished H last m l.1 busy unf)
       where
         never : (b : Bool) → b ≡ true → b ≡ false → ⊥

@@ -1,6 +1,6 @@
 -- The layer's own driver calls over rows and for transactions: the connections on which they go out, and that
 -- they may come.
-use Rattle.std.proofs.Common.{◌≡◌, ℕ, ◌==◌, Bool, true, false, ◌&&◌, ◌||◌, cond, List, Option, Some, None, is_some, is_none, refl, sym, ap, subst, ◌∙◌}
+use Rattle.std.proofs.Common.{◌≡◌, ℕ, ◌==◌, Bool, true, false, ◌&&◌, ◌||◌, cond, List, Option, Some, None, is_some, refl, sym, ap, subst, ◌∙◌}
 use Rattle.dsql_laws.specs.course.declared.course.Wish.{Wish}
 use Rattle.dsql_laws.specs.course.declared.course.Wish.TheVariants as wishes
 use Rattle.dsql_laws.specs.journal.declared.entry.Entry.{Entry}
@@ -10,11 +10,10 @@ use Rattle.dsql_laws.specs.journal.Readers.{went_bad}
 use Rattle.dsql_laws.specs.pool.declared.conn.Place.{Place}
 use Rattle.dsql_laws.specs.pool.declared.conn.Place.TheVariants.{Lent}
 use Rattle.dsql_laws.specs.history.Rules.Wishes.{newest_sender}
-use Rattle.dsql_laws.proofs.Tests.{together, same_number, same_itself}
+use Rattle.dsql_laws.proofs.Tests.{together, same_itself}
 use Rattle.dsql_laws_calls.specs.Chores.{is_lent_for}
-use Rattle.dsql_laws_calls.specs.Nothing.{unpins}
 use Rattle.dsql_laws_calls.proofs.Ends.{none_due_once_ended}
-use Rattle.dsql_laws.specs.history.Rules.Line.{is_due, is_numbered, tidying, tidying_for, due_for, due_from, holder_at, holder, has_turn, is_at, is_due_at, may_come}
+use Rattle.dsql_laws.specs.history.Rules.Line.{is_due, tidying, due_for, due_from, holder_at, holder, has_turn, is_at, is_due_at, may_come}
 use Rattle.dsql_laws.specs.history.declared.event.Event.{Event}
 use Rattle.dsql_laws.specs.history.Readers.Course.{has_ended}
 use Rattle.dsql_laws.specs.history.Readers.Journals.{heard_in, journal}
@@ -26,14 +25,15 @@ use Rattle.dsql_laws.specs.history.Legal.{Lawful}
 use Rattle.dsql_laws.proofs.Welcome.{due_may_come}
 use Rattle.dsql_laws.specs.course.Made.{or_else}
 use Rattle.dsql_laws.specs.tx.declared.end.TxEnd.{TxEnd}
+use Rattle.dsql_laws.specs.history.declared.work.Work.{Work}
+use Rattle.dsql_laws.specs.history.declared.work.Work.TheVariants.{Begin}
 use Rattle.dsql_laws.specs.history.Readers.Works.{works, work, asks, borrower}
 use Rattle.dsql_laws.specs.history.Readers.Transactions.{tx_end, is_begun, tx_ender}
-use Rattle.dsql_laws.specs.history.Rules.Ending.{first_closing, end_after, ending_at, ending_with, ending, closing_call, ending_on, ending_within_by, ending_within}
-use Rattle.dsql_laws.specs.history.Rules.Pinned.{kept_by, testing, unpinning_at, unpinning}
-use Rattle.dsql_laws.specs.history.Readers.Pins.{pin_end}
+use Rattle.dsql_laws.specs.history.Rules.Ending.{first_closing, end_after, ending_at, ending_with, ending}
 use Rattle.dsql_laws_calls.proofs.Lines.{line_there}
 use Rattle.dsql_laws_calls.proofs.Own.{asks_own}
-use Rattle.dsql_laws_calls.proofs.Owners.{lent_asks}
+use Rattle.dsql_laws_calls.proofs.Plain.{begins}
+use Rattle.dsql_laws_calls.proofs.Begun.{begun_begins}
 
 pub lent_where_due : (H : List Event) (n : ℕ) (w : Wish) (c : ℕ) (at : Option Place) → is_some (line_at H n w c at) ≡ true → is_lent_for (borrower H n) at ≡ true
 lent_where_due H n w c (Some (Lent t o)) h = by (number_of o == borrower H n) h
@@ -58,38 +58,6 @@ ending_lent H k h = by (tx_end H k) h
     by None x = absurd cc
     by (Some end) x = ended_where_lent H k (home H k) end (place H (home H k)) x
 
--- On a pin a transaction is ended, and the connection tested, where that is lent to the pin.
-
-pub within_lent : (H : List Event) (p k : ℕ) → is_some (ending_within H p k) ≡ true → is_lent_for p (place H (home H p)) ≡ true
-within_lent H p k h = by (tx_end H k) h
-  where
-    at : (c : ℕ) (end : TxEnd) (o : Option Place) → is_some (ending_on H p k c end o) ≡ true → is_lent_for p o ≡ true
-    at c end (Some (Lent t o)) x = if_so (number_of o == p) x
-      where
-        if_so : (b : Bool) → is_some (cond b (or_else (first_closing H k 0 (works H)) (closing_call k end (heard_in H c t))) None) ≡ true → b ≡ true
-        if_so true y = refl
-        if_so false y = absurd cc
-    at c end _ x = absurd cc
-
-    by : (o : Option TxEnd) → is_some (ending_within_by H p k o) ≡ true → is_lent_for p (place H (home H p)) ≡ true
-    by None x = absurd cc
-    by (Some end) x = at (home H p) end (place H (home H p)) x
-
-pub unpinning_lent : (H : List Event) (p : ℕ) → is_some (unpinning H p) ≡ true → is_lent_for p (place H (home H p)) ≡ true
-unpinning_lent H p h = by (is_some (pin_end H p) && is_none (kept_by H p)) h
-  where
-    at : (c : ℕ) (o : Option Place) → is_some (unpinning_at H p c o) ≡ true → is_lent_for p o ≡ true
-    at c (Some (Lent t o)) x = if_so (number_of o == p) x
-      where
-        if_so : (b : Bool) → is_some (cond b (testing H (went_bad (journal H c)) (heard_in H c t)) None) ≡ true → b ≡ true
-        if_so true y = refl
-        if_so false y = absurd cc
-    at c _ x = absurd cc
-
-    by : (b : Bool) → is_some (cond b (unpinning_at H p (home H p) (place H (home H p))) None) ≡ true → is_lent_for p (place H (home H p)) ≡ true
-    by true x = at (home H p) (place H (home H p)) x
-    by false x = absurd cc
-
 pub closing_lent : (H : List Event) (n : ℕ) → is_some (close_due H n) ≡ true → is_lent_for (borrower H n) (place H (site H n)) ≡ true
 closing_lent H n h = by (are_over H n) h
   where
@@ -97,15 +65,12 @@ closing_lent H n h = by (are_over H n) h
     by true x = lent_where_due H n wishes.Close (site H n) (place H (site H n)) x
     by false x = absurd cc
 
--- A call to which a connection is lent asks for it, so it uses its own.
-lent_own : (H : List Event) (n c : ℕ) → Lawful H → is_lent_for n (place H c) ≡ true → borrower H n ≡ n
-lent_own H n c l h = by (place H c) refl h
+begun_own : (H : List Event) (n : ℕ) → begins (work H n) ≡ true → borrower H n ≡ n
+begun_own H n h = asks_own H n (by (work H n) h)
   where
-    by : (at : Option Place) → place H c ≡ at → is_lent_for n at ≡ true → borrower H n ≡ n
-    by (Some (Lent t own)) is k =
-        let same = same_number (number_of own) n k in
-        asks_own H n (subst (λ m. asks (work H m) ≡ true) same (lent_asks H c t own l is))
-    by _ is k = absurd cc
+    by : (w : Work) → begins w ≡ true → asks w ≡ true
+    by (Begin label level read_only) k = refl
+    by w k = absurd cc
 
 pub tidied_where_lent : (H : List Event) (n : ℕ) → Lawful H → is_some (tidying H n) ≡ true → is_lent_for (borrower H n) (place H (site H n)) ≡ true
 tidied_where_lent H n l h = by_begun (is_begun H n) refl h
@@ -116,7 +81,7 @@ tidied_where_lent H n l h = by_begun (is_begun H n) refl h
 
     by_tx : (b : Bool) → is_begun H n ≡ true → is_some (cond b (ending H n) None) ≡ true → is_lent_for (borrower H n) (place H (site H n)) ≡ true
     by_tx true begun k =
-        let own = lent_own H n (home H n) l (ending_lent H n k) in
+        let own = begun_own H n (begun_begins H n l begun) in
         subst (λ m. is_lent_for m (place H (home H m)) ≡ true) (sym own) (ending_lent H n k)
     by_tx false begun k = absurd cc
 
@@ -124,29 +89,24 @@ tidied_where_lent H n l h = by_begun (is_begun H n) refl h
     by_begun true is k = by_tx (tx_ender H n == 0) is k
     by_begun false is k = by_ender (ender H n == 0) k
 
--- What the layer sends in its turn may come. On a pin it stands in the right transaction.
-pub tidying_comes : (H : List Event) (o : Owner) (e : Entry) → e.call_no ≡ 0 → place H e.conn ≡ Some (Lent e.tenure o) → holder H e.conn ≡ 0 → is_due (tidying_for H o) e.call ≡ true → is_numbered H o e ≡ true → may_come H e ≡ true
-tidying_comes H o e layer lent free due numbered =
+-- What the layer sends in its turn may come.
+pub tidying_comes : (H : List Event) (o : Owner) (e : Entry) → e.call_no ≡ 0 → place H e.conn ≡ Some (Lent e.tenure o) → holder H e.conn ≡ 0 → is_due (tidying H (number_of o)) e.call ≡ true → may_come H e ≡ true
+tidying_comes H o e layer lent free due =
     let zero : (e.call_no == 0) ≡ true = ap (λ k. k == 0) layer in
     let there : is_at H e.call_no e.conn ≡ true = ap (λ b. b || (site H e.call_no == e.conn)) zero in
     let turn : has_turn H e.conn e.call_no ≡ true = ap (λ k. (k == 0) || (k == e.call_no)) free in
-    let sends : is_due (due_from H e.call_no o) e.call ≡ true = ap (λ b. is_due (cond b (tidying_for H o) (due_for H e.call_no)) e.call) zero ∙ due in
-    let all = is_due (due_from H e.call_no o) e.call && is_numbered H o e in
+    let sends : is_due (due_from H e.call_no (number_of o)) e.call ≡ true = ap (λ b. is_due (cond b (tidying H (number_of o)) (due_for H e.call_no)) e.call) zero ∙ due in
     let now : is_due_at H (Some (Lent e.tenure o)) e ≡ true =
-    together (e.tenure == e.tenure) (is_at H e.call_no e.conn && (has_turn H e.conn e.call_no && all)) (same_itself e.tenure)
-    (together (is_at H e.call_no e.conn) (has_turn H e.conn e.call_no && all) there
-    (together (has_turn H e.conn e.call_no) all turn (together (is_due (due_from H e.call_no o) e.call) (is_numbered H o e) sends numbered)))
+    together (e.tenure == e.tenure) (is_at H e.call_no e.conn && (has_turn H e.conn e.call_no && is_due (due_from H e.call_no (number_of o)) e.call)) (same_itself e.tenure)
+    (together (is_at H e.call_no e.conn) (has_turn H e.conn e.call_no && is_due (due_from H e.call_no (number_of o)) e.call) there
+    (together (has_turn H e.conn e.call_no) (is_due (due_from H e.call_no (number_of o)) e.call) turn sends))
     in
     due_may_come H e (ap (λ at. is_due_at H at e) lent ∙ now)
 
--- If no call but one that closes a pin has anything to send, no other call holds the turn.
-unheld : (H : List Event) (c : ℕ) (at : Option Place) → ((n : ℕ) → unpins (work H n) ≡ false → is_some (due_for H n) ≡ false) → unpins (work H (holder_at H c at)) ≡ false → holder_at H c at ≡ 0
-unheld H c (Some (Lent t o)) none no_pin = by (is_some (due_for H (newest_sender (heard_in H c t)))) refl no_pin
-  where
-    by : (b : Bool) → is_some (due_for H (newest_sender (heard_in H c t))) ≡ b → unpins (work H (cond b (newest_sender (heard_in H c t)) 0)) ≡ false → cond b (newest_sender (heard_in H c t)) 0 ≡ 0
-    by true is x = let wrong : true ≡ false = sym is ∙ none (newest_sender (heard_in H c t)) x in absurd cc
-    by false is x = refl
-unheld H c _ none no_pin = refl
+-- If no call has anything to send, no call holds the turn.
+unheld : (H : List Event) (c : ℕ) (at : Option Place) → ((n : ℕ) → is_some (due_for H n) ≡ false) → holder_at H c at ≡ 0
+unheld H c (Some (Lent t o)) none = ap (λ b. cond b (newest_sender (heard_in H c t)) 0) (none (newest_sender (heard_in H c t)))
+unheld H c _ none = refl
 
-pub unheld_once_ended : (H : List Event) (c : ℕ) → Lawful H → has_ended H ≡ true → unpins (work H (holder H c)) ≡ false → holder H c ≡ 0
-unheld_once_ended H c l h no_pin = unheld H c (place H c) (λ n. none_due_once_ended H n l h) no_pin
+pub unheld_once_ended : (H : List Event) (c : ℕ) → Lawful H → has_ended H ≡ true → holder H c ≡ 0
+unheld_once_ended H c l h = unheld H c (place H c) (λ n. none_due_once_ended H n l h)

@@ -21,12 +21,12 @@ use Rattle.dsql_laws.specs.history.Readers.Calls.{calls, nobody, entering, decid
 use Rattle.dsql_laws.specs.history.Readers.Journals.{journal}
 use Rattle.dsql_laws.specs.history.Readers.Lines.{has_sent}
 use Rattle.dsql_laws.specs.history.Readers.Pool.{place}
-use Rattle.dsql_laws.specs.history.Readers.Works.{works, work, work_at, work_of, tx_maker}
+use Rattle.dsql_laws.specs.history.Readers.Works.{works, work, work_of}
 use Rattle.dsql_laws.specs.history.Readers.Transactions.{tx_by, end_of, goes_on, ending_call, tx_ender}
 use Rattle.dsql_laws.specs.history.Legal.{Allowed, Lawful}
 use Rattle.dsql_laws_calls.proofs.Works.{is_look, work_stays, enters_next, new_work}
 use Rattle.dsql_laws_calls.proofs.Looks.{sent_no_look, heard_there, comes}
-use Rattle.dsql_laws_calls.proofs.Rows.{is_worker, closing_works}
+use Rattle.dsql_laws_calls.proofs.Rows.{is_worker}
 use Rattle.dsql_laws_calls.proofs.Begun.{entered_tx, heard_tx, ended_tx}
 use Rattle.dsql_laws_calls.proofs.Stays.{as_many}
 
@@ -35,8 +35,8 @@ never h = cc
 
 -- If a call ends a transaction as it enters, `is_worker` is true of its work.
 ends_only : (H : List Event) (client m : ℕ) (op : Op) (k : ℕ) → goes_on H k ≡ true → goes_on (Entered client m op ∷ H) k ≡ false → is_worker (work_of (works H) op) ≡ true
-ends_only H client m (ops.Commit tx) k was now = closing_works (work_at (works H) (tx_maker (works H) tx)) (tx_maker (works H) tx)
-ends_only H client m (ops.Rollback tx) k was now = closing_works (work_at (works H) (tx_maker (works H) tx)) (tx_maker (works H) tx)
+ends_only H client m (ops.Commit tx) k was now = refl
+ends_only H client m (ops.Rollback tx) k was now = refl
 ends_only H client m (ops.Next rows) k was now = refl
 ends_only H client m (ops.RowsClose rows) k was now = refl
 ends_only H client m op k was now = absurd (never (sym was ∙ now))

@@ -7,7 +7,7 @@ use Rattle.dsql_laws.specs.course.declared.course.Wish.TheVariants as wishes
 use Rattle.dsql_laws.specs.course.Made.{Exchange, or_else}
 use Rattle.dsql_laws.specs.journal.declared.entry.Entry.{Entry}
 use Rattle.dsql_laws.specs.journal.declared.entry.Owner.{Owner}
-use Rattle.dsql_laws.specs.journal.Kinds.{is_call, number_of, is_pin}
+use Rattle.dsql_laws.specs.journal.Kinds.{is_call, number_of}
 use Rattle.dsql_laws.specs.journal.Readers.{went_bad, of_tenure}
 use Rattle.dsql_laws.specs.pool.declared.conn.Place.TheVariants.{Lent}
 use Rattle.dsql_laws.specs.tx.declared.end.TxEnd.{TxEnd}
@@ -45,8 +45,7 @@ use Rattle.dsql_laws_calls.proofs.Inside.{inside_uses, number_not}
 use Rattle.dsql_laws_calls.proofs.Quiet.{Quiet}
 use Rattle.dsql_laws_calls.proofs.InnerLines.{Ordered}
 use Rattle.dsql_laws_calls.proofs.CallTenures.{call_line}
-use Rattle.dsql_laws_calls.proofs.Why.{ended_there, test_there, Closes, Left, Why}
-use Rattle.dsql_laws_calls.proofs.Scopes.{held_there}
+use Rattle.dsql_laws_calls.proofs.Why.{ended_there, test_there, Closes, Left, Why, scoped}
 
 -- What holds, on a lent connection, of the calls in its transaction.
 
@@ -73,7 +72,7 @@ Going H c t m = (handed_there H c t m ≡ true) ⊎ (Newest H c t m ⊎ Quiet (c
 -- What holds of each lent connection.
 pub record Facts (H : List Event) : Type 0 where
   -- No end was heard for a transaction that isn't over.
-  pub ends : (c t : ℕ) (own : Owner) → place H c ≡ Some (Lent t own) → is_pin own ≡ false → is_over H (number_of own) ≡ false → ended_there (heard_in H c t) ≡ false
+  pub ends : (c t : ℕ) (own : Owner) → place H c ≡ Some (Lent t own) → is_over H (number_of own) ≡ false → ended_there (heard_in H c t) ≡ false
   pub going : (c t : ℕ) (own : Owner) → place H c ≡ Some (Lent t own) → (m : ℕ) → scope (work H m) ≡ Held (number_of own) → is_unfinished H m ≡ true → has_sent m (journal H c) ≡ true → Going H c t m
   -- What was exchanged in a call's tenure fits how far that tenure has come.
   pub made : (c t : ℕ) (own : Owner) → place H c ≡ Some (Lent t own) → is_call own ≡ true → MadeAt (caps H) (asked_by H (number_of own)) (step (heard_in H c t)) (exchanges (heard_in H c t))
@@ -90,8 +89,8 @@ pub record UnderWay (H : List Event) (e : Entry) : Type 0 where
   pub borrowed : e.call_no ≢ 0 → borrower H e.call_no ≡ number_of owner
   pub unfinished : e.call_no ≢ 0 → is_unfinished H e.call_no ≡ true
   pub rowed : (j : ℕ) → (work H e.call_no ≡ Fetch j) ⊎ (work H e.call_no ≡ Close j) → is_some (rows_by H j) ≡ true
-  pub why : is_pin owner ≡ false → Why H e.conn e.tenure owner e.call_no
-  pub ending : is_pin owner ≡ false → is_ending e.call ≡ true → is_over H (number_of owner) ≡ true
+  pub why : Why H e.conn e.tenure owner e.call_no
+  pub ending : is_ending e.call ≡ true → is_over H (number_of owner) ≡ true
   pub within : scope (work H e.call_no) ≡ Held (number_of owner) → InsideWay H e.conn e.tenure owner e.call_no e.call
   pub line : is_call owner ≡ true → (w : Wish) × (is_due (call_line H e.conn e.tenure owner w) e.call ≡ true)
   pub turn : (m : ℕ) → m ≢ e.call_no → newest_sender (heard_in H e.conn e.tenure) ≡ m → scope (work H m) ≡ Held (number_of owner) → is_unfinished H m ≡ true → is_some (line_there H e.conn e.tenure owner m wishes.Nothing) ≡ false
@@ -131,7 +130,7 @@ closes_of : (H : List Event) (c t : ℕ) (own : Owner) (k : ℕ) → Lawful H �
 closes_of H c t own k l is hands some = by (are_over H k) refl some
   where
     by : (b : Bool) → are_over H k ≡ b → is_some (cond b (line_of H k wishes.Close) None) ≡ true → Closes H c t own k
-    by true over x = record { hands = hands; over = over; sends = ap (λ d. is_some d) (sym (line_here H c t own k wishes.Close l is (inside_uses H k (number_of own) (held_there H c t own k l is hands)))) ∙ x }
+    by true over x = record { hands = hands; over = over; sends = ap (λ d. is_some d) (sym (line_here H c t own k wishes.Close l is (inside_uses H k (number_of own) (scoped (work H k) (number_of own) hands)))) ∙ x }
     by false over x = absurd cc
 
 pub left_of : (H : List Event) (c t : ℕ) (own : Owner) → Lawful H → place H c ≡ Some (Lent t own) → is_some (ending H (number_of own)) ≡ true → Left H c t own

@@ -16,7 +16,7 @@ use Rattle.dsql_laws.specs.history.declared.record.Try.{Try}
 use Rattle.dsql_laws.specs.history.declared.record.Try.TheVariants.{Served}
 use Rattle.dsql_laws.specs.history.declared.reply.DbEnd.{DbEnd}
 use Rattle.dsql_laws.specs.history.Readers.Pool.{smallest, pool}
-use Rattle.dsql_laws.specs.history.Readers.Tries.{has_a_try, was_served, try_number, tries, tries_again}
+use Rattle.dsql_laws.specs.history.Readers.Tries.{has_a_try, try_number, tries, tries_again}
 use Rattle.dsql_laws.proofs.Counts.{uncounted, waits_none}
 use Rattle.dsql_laws.proofs.Places.{neither, none_opens}
 use Rattle.dsql_laws.proofs.Tests.{both, other_number}
@@ -123,10 +123,6 @@ or_none : (o : Option Reply) → is_some (or_else o None) ≡ is_some o
 or_none None = refl
 or_none (Some r) = refl
 
-pub left_unserved : (ts : List Try) → has_a_try ts ≡ true → was_served ts ≡ false
-left_unserved (Served ∷ earlier) h = absurd cc
-left_unserved ts h = refl
-
 -- A call that wants a connection has no settled reply, as long as the database is open.
 wanting_silent : (H : List Event) (n : ℕ) → Lawful H → n ≢ 0 → 1 ≤ wanted n (pool H) → is_some (reply_due H n) ≡ true → ⊥
 wanting_silent H n l some now settled =
@@ -139,7 +135,7 @@ wanting_silent H n l some now settled =
     ∙ settled
     in
     let told : told_by_others H n ≡ option_map DbClosed (db_end H) =
-    told_own H n (work H n) own (left_unserved (tries H n) left) ∙ ap (λ (b : Bool). cond b (option_map DbClosed (db_end H)) (last_told (tries_again (work H n) (try_number (tries H n))) (try_number (tries H n)) (tries H n))) left
+    told_own H n (work H n) own ∙ ap (λ (b : Bool). cond b (option_map DbClosed (db_end H)) (last_told (tries_again (work H n) (try_number (tries H n))) (try_number (tries H n)) (tries H n))) left
     in
     let end : is_some (db_end H) ≡ true = closed_by_some (db_end H) (sym (ap (λ (o : Option Reply). is_some o) told) ∙ others) in
     let none = closed_to_all H n l (end_closes H end) in

@@ -16,13 +16,15 @@ use Rattle.dsql_laws.specs.rows.declared.rows.Rows.{Rows}
 use Rattle.dsql_laws.specs.rows.OpenRows.{is_live}
 use Rattle.dsql_laws.specs.tx.declared.end.TxEnd.{TxEnd}
 use Rattle.dsql_laws.specs.works.Line.{test_of}
-use Rattle.dsql_laws.proofs.Tests.{same_itself}
+use Rattle.dsql_laws.proofs.Tests.{same_number, same_itself}
 use Rattle.dsql_laws.specs.history.declared.event.Event.{Event}
+use Rattle.dsql_laws.specs.history.declared.work.Scope.TheVariants.{Db, Held}
 use Rattle.dsql_laws.specs.history.declared.work.Work.{Work}
-use Rattle.dsql_laws.specs.history.declared.work.Work.TheVariants.{Look}
+use Rattle.dsql_laws.specs.history.declared.work.Task.TheVariants.{HandOut}
+use Rattle.dsql_laws.specs.history.declared.work.Work.TheVariants.{Statement, Look}
 use Rattle.dsql_laws.specs.history.Readers.Course.{caps}
 use Rattle.dsql_laws.specs.history.Readers.Unfinished.{is_unfinished}
-use Rattle.dsql_laws.specs.history.Readers.Works.{works, work, hands_out_in}
+use Rattle.dsql_laws.specs.history.Readers.Works.{works, work, scope, hands_out_in}
 use Rattle.dsql_laws.specs.history.Readers.Journals.{journal, heard_in}
 use Rattle.dsql_laws.specs.history.Readers.Pool.{place}
 use Rattle.dsql_laws.specs.history.Readers.Transactions.{tx_end, is_begun, is_over, goes_on}
@@ -34,10 +36,9 @@ use Rattle.dsql_laws.specs.history.Legal.{Lawful}
 use Rattle.dsql_laws_calls.proofs.Owners.{at_home, lent_asks}
 use Rattle.dsql_laws_calls.proofs.Stays.{not_looking, work_stays, unfinished_stays}
 use Rattle.dsql_laws_calls.proofs.EndedRows.{rows_kept}
-use Rattle.dsql_laws_calls.proofs.Makers.{rows_start_nothing}
-use Rattle.dsql_laws_calls.proofs.Begun.{begun_starts, stays_begun}
-use Rattle.dsql_laws_calls.proofs.Plain.{starts}
-use Rattle.dsql_laws_calls.proofs.Scopes.{held_there}
+use Rattle.dsql_laws_calls.proofs.Makers.{rows_begin_nothing}
+use Rattle.dsql_laws_calls.proofs.Begun.{begun_begins, stays_begun}
+use Rattle.dsql_laws_calls.proofs.Plain.{begins}
 use Rattle.dsql_laws_calls.proofs.Lines.{line_there, line_here, line_stays, caps_stay, unheard}
 use Rattle.dsql_laws_calls.proofs.Own.{asks_own, used_by, going_used, own_used}
 use Rattle.dsql_laws_calls.proofs.Inside.{inside_uses}
@@ -100,10 +101,15 @@ first_some H k n (suc j) (w ∷ ws) hands some =
     or_second None p h = h
     or_second (Some q) p h = refl
 
+pub scoped : (w : Work) (n : ℕ) → hands_out_in n w ≡ true → scope w ≡ Held n
+scoped (Statement (Held j) (HandOut label)) n h = ap Held (same_number j n h)
+scoped (Statement Db (HandOut label)) n h = absurd cc
+scoped w n h = absurd cc
+
 pub closes_now : (H : List Event) (c t : ℕ) (own : Owner) (k : ℕ) → Lawful H → place H c ≡ Some (Lent t own) → Closes H c t own k → is_some (close_due H k) ≡ true
 closes_now H c t own k l is x =
     ap (λ b. is_some (cond b (line_of H k wishes.Close) None)) x.over
-    ∙ ap (λ d. is_some d) (line_here H c t own k wishes.Close l is (inside_uses H k (number_of own) (held_there H c t own k l is x.hands))) ∙ x.sends
+    ∙ ap (λ d. is_some d) (line_here H c t own k wishes.Close l is (inside_uses H k (number_of own) (scoped (work H k) (number_of own) x.hands))) ∙ x.sends
 
 pub ending_some : (H : List Event) (c t : ℕ) (own : Owner) (end : TxEnd) → Lawful H → place H c ≡ Some (Lent t own) → tx_end H (number_of own) ≡ Some end → Left H c t own → is_some (ending H (number_of own)) ≡ true
 ending_some H c t own end l is ended left = ap (λ d. is_some d) here ∙ by left
@@ -153,11 +159,11 @@ tx_used H c t own l is why = by (tx_end H (number_of own)) refl
         last (goes_on H (number_of own)) (are_live H (number_of own)) (is_some (rest H (number_of own)))
         (ap (λ b. is_some (cond b (ending H (number_of own)) (rest_with H (number_of own) (rows_by H (number_of own))))) begun ∙ ending_some H c t own end l is ended why.left)
 
-unbegun : (H : List Event) (n : ℕ) → Lawful H → starts (work H n) ≡ false → is_begun H n ≡ false
-unbegun H n l no_start = by (is_begun H n) refl
+unbegun : (H : List Event) (n : ℕ) → Lawful H → begins (work H n) ≡ false → is_begun H n ≡ false
+unbegun H n l not_begin = by (is_begun H n) refl
   where
     by : (b : Bool) → is_begun H n ≡ b → b ≡ false
-    by true is = let wrong : true ≡ false = sym (begun_starts H n l is) ∙ no_start in absurd cc
+    by true is = let wrong : true ≡ false = sym (begun_begins H n l is) ∙ not_begin in absurd cc
     by false is = refl
 
 rows_used : (H : List Event) (c t : ℕ) (own : Owner) → Lawful H → place H c ≡ Some (Lent t own) → WhyRows H c t own → is_used H (number_of own) ≡ true
@@ -172,7 +178,7 @@ rows_used H c t own l is why = by (rows_by H (number_of own)) refl why.some
 
     by : (o : Option Rows) → rows_by H (number_of own) ≡ o → is_some o ≡ true → is_used H (number_of own) ≡ true
     by None rows some = absurd cc
-    by (Some r) rows some = used_by H (number_of own) (Some r) rows (unbegun H (number_of own) l (rows_start_nothing H (number_of own) (ap (λ o. is_some o) rows))) (over (is_live r))
+    by (Some r) rows some = used_by H (number_of own) (Some r) rows (unbegun H (number_of own) l (rows_begin_nothing H (number_of own) (ap (λ o. is_some o) rows))) (over (is_live r))
 
 pub why_used : (H : List Event) (c t : ℕ) (own : Owner) (m : ℕ) → Lawful H → place H c ≡ Some (Lent t own) → Why H c t own m → is_used H (number_of own) ≡ true
 why_used H c t own m l is (inl why) = own_used H c t own l is why.unfinished why.sends

@@ -4,7 +4,7 @@ use Rattle.dsql_laws.specs.pool.Calls.{wants}
 use Rattle.dsql_laws.specs.history.Readers.Pool.{smallest, is_home, pool}
 use Rattle.dsql_laws.specs.history.declared.event.Event.{Event}
 use Rattle.dsql_laws.specs.history.declared.work.Work.{Work}
-use Rattle.dsql_laws.specs.history.declared.work.Work.TheVariants.{Fetch, End, EndWithin, Unpin}
+use Rattle.dsql_laws.specs.history.declared.work.Work.TheVariants.{Fetch, End}
 use Rattle.dsql_laws.specs.history.Readers.HandedOut.{rows_by}
 use Rattle.dsql_laws.specs.history.Readers.Works.{asks_in, scope}
 
@@ -14,15 +14,8 @@ pub record HasNothing (history : List Event) (n : ℕ) : Type 0 where
   pub homeless : smallest (is_home n) (pool history) ≡ None
   pub rowless : rows_by history n ≡ None
 
--- Is true if the call closes a pin.
-abbrev pub unpins : Work → Bool
-unpins (Unpin pin) = true
-unpins it = false
-
--- Is true if the call fetches a row, ends a transaction or a pin, or works in a transaction or on a pin.
+-- Is true if the call fetches a row, ends a transaction, or carries its statement out in a transaction.
 abbrev pub is_elsewhere : Work → Bool
 is_elsewhere (Fetch k) = true
 is_elsewhere (End k) = true
-is_elsewhere (EndWithin pin k) = true
-is_elsewhere (Unpin pin) = true
 is_elsewhere it = not (asks_in (scope it))

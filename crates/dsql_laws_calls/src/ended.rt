@@ -10,9 +10,6 @@ ghost use Rattle.dsql_laws.specs.history.declared.event.Event.TheVariants.{Pool}
 ghost use Rattle.dsql_laws.specs.history.Readers.Course.{has_ended};
 ghost use Rattle.dsql_laws.specs.history.Readers.HandedOut.{are_live};
 ghost use Rattle.dsql_laws.specs.history.Readers.Transactions.{goes_on};
-ghost use Rattle.dsql_laws.specs.history.Readers.Pins.{pin_goes_on};
-ghost use Rattle.dsql_laws.specs.history.Readers.Works.{work};
-ghost use Rattle.dsql_laws_calls.specs.Nothing.{unpins};
 ghost use Rattle.dsql_laws.specs.history.Rules.Line.{due_for, holder, may_come};
 ghost use Rattle.dsql_laws.specs.history.Legal.{Allowed, Lawful};
 
@@ -27,21 +24,18 @@ pub fn a_closed_database_serves_nobody()
         → Allowed history (Pool (Lend c t owner n)) → (pool history).closed ≡ false }
 {}
 
-/// Once the run has ended, the database is closed. No driver call of any call is due, except of one that closes a pin.
-/// No rows are live, and no transaction and no pin goes on. An answer that may still come is to a driver call of the
-/// layer or of such a call. Only such a call may have the turn.
+/// Once the run has ended, the database is closed and no driver call of any call is due. No rows are live and
+/// no transaction goes on. An answer that may still come is to a driver call of the layer, which has the turn
+/// on each connection.
 pub fn the_end_leaves_nothing_due()
     ensures closed { (history : List Event) → has_ended history ≡ true → (pool history).closed ≡ true }
     ensures due { (history : List Event) (n : ℕ) → Lawful history → has_ended history ≡ true
-        → unpins (work history n) ≡ false → due_for history n ≡ None }
+        → due_for history n ≡ None }
     ensures live { (history : List Event) (n : ℕ) → Lawful history → has_ended history ≡ true
         → (are_live history n ≡ false)
         × (goes_on history n ≡ false) }
-    ensures pinned { (history : List Event) (p : ℕ) → Lawful history → has_ended history ≡ true
-        → pin_goes_on history p ≡ false }
     ensures layer { (history : List Event) (e : Entry) → Lawful history → has_ended history ≡ true
-        → may_come history e ≡ true → unpins (work history e.call_no) ≡ false
+        → may_come history e ≡ true
         → e.call_no ≡ 0 }
-    ensures turn { (history : List Event) (c : ℕ) → Lawful history → has_ended history ≡ true
-        → unpins (work history (holder history c)) ≡ false → holder history c ≡ 0 }
+    ensures turn { (history : List Event) (c : ℕ) → Lawful history → has_ended history ≡ true → holder history c ≡ 0 }
 {}

@@ -6,7 +6,7 @@ use Rattle.dsql_laws_calls.specs.course.declared.course.Wish.TheVariants as wish
 use Rattle.dsql_laws_calls.specs.course.Made.{Exchange, given_cursor, own_cursor, rows_are_over}
 use Rattle.dsql_laws_calls.specs.journal.declared.entry.Entry.{Entry}
 use Rattle.dsql_laws_calls.specs.journal.declared.entry.Owner.{Owner}
-use Rattle.dsql_laws_calls.specs.journal.Kinds.{is_call, is_pin, number_of}
+use Rattle.dsql_laws_calls.specs.journal.Kinds.{is_call, number_of}
 use Rattle.dsql_laws_calls.specs.journal.Readers.{of_tenure}
 use Rattle.dsql_laws_calls.specs.pool.declared.conn.Place.TheVariants.{Lent}
 use Rattle.dsql_laws_calls.specs.pool.declared.moves.Move.TheVariants.{Lend}
@@ -48,7 +48,6 @@ use Rattle.dsql_laws_calls.proofs.Stays.{not_looking, work_stays}
 use Rattle.dsql_laws_calls.proofs.Tenures.{fresh_lending}
 use Rattle.dsql_laws_calls.proofs.UnderWay.{clash, UnderWay}
 use Rattle.dsql_laws_calls.proofs.Why.{Why}
-use Rattle.dsql_laws_calls.proofs.DueWay.{call_no_pin}
 
 -- A query to which the driver gave a cursor there has made its rows.
 
@@ -68,11 +67,11 @@ answer_rows H e c t own l is here call hands rest some = by (given_or (step_of e
     from u same given step (inr (inl why)) = kept (ap (λ o. is_some (rows_by H (number_of o))) (sym same) ∙ why.some)
     from u same given step (inr (inr why)) =
         let begun : is_begun H (number_of own) ≡ true = ap (λ o. is_begun H (number_of o)) (sym same) ∙ why.begun in
-        clash (sym call ∙ begin_owner H c t own l.0 is (begun_begins H (number_of own) l.0 (lent_asks H c t own l.0 is) begun))
+        clash (sym call ∙ begin_owner H c t own l.0 is (begun_begins H (number_of own) l.0 begun))
 
     by : (is_some (own_cursor (exchanges (heard_in H c t))) ≡ true) ⊎ ((is_some (given_cursor (got_of e.answer)) ≡ true) × (is_some (step_of e.call) ≡ true)) → is_some (rows_by (Heard e ∷ H) (number_of own)) ≡ true
     by (inl had) = kept (rest had)
-    by (inr g) = let w = was_under_way H e t own l.1 (sound H l.0) (ap (place H) here ∙ is) in let u = w.way in from u w.owner g.0 g.1 (u.why (ap is_pin w.owner ∙ call_no_pin own call))
+    by (inr g) = let w = was_under_way H e t own l.1 (sound H l.0) (ap (place H) here ∙ is) in let u = w.way in from u w.owner g.0 g.1 u.why
 
 call_rows : (H : List Event) (c t : ℕ) (own : Owner) → Lawful H → place H c ≡ Some (Lent t own) → is_call own ≡ true → hands_out (work H (number_of own)) ≡ true → is_some (own_cursor (exchanges (heard_in H c t))) ≡ true
     → is_some (rows_by H (number_of own)) ≡ true
@@ -139,7 +138,7 @@ finished H c t own l is call unused =
     unbegun = at (is_begun H (number_of own)) refl
       where
         at : (b : Bool) → is_begun H (number_of own) ≡ b → b ≡ false
-        at true begun = clash (sym call ∙ begin_owner H c t own l is (begun_begins H (number_of own) l (lent_asks H c t own l is) begun))
+        at true begun = clash (sym call ∙ begin_owner H c t own l is (begun_begins H (number_of own) l begun))
         at false begun = refl
 
     none_of : (w : Wish) → is_some (line_of H (number_of own) w) ≡ false → is_none (call_line H c t own w) ≡ true

@@ -1,39 +1,39 @@
 -- What is under way on a connection that is lent to a call on the database, apart from that call's own driver
 -- calls.
-use Rattle.std.proofs.Common.{◌≡◌, ℕ, ◌==◌, ◌⊎◌, inl, inr, Bool, true, false, not, ◌&&◌, cond, List, [], ◌∷◌, Some, None, is_some, is_none, refl, sym, ap, subst, ◌∙◌}
+use Rattle.std.proofs.Common.{◌≡◌, ℕ, ◌==◌, ◌⊎◌, inl, inr, Bool, true, false, not, ◌&&◌, ◌||◌, cond, List, [], ◌∷◌, Some, None, is_some, is_none, refl, sym, ap, subst, ◌∙◌}
 use Rattle.std.proofs.lemmas.Bool.{or_cases}
 use Rattle.dsql_laws_calls.specs.driver.declared.call.DriverCall.{DriverCall}
 use Rattle.dsql_laws_calls.specs.course.declared.course.Wish.{Wish}
 use Rattle.dsql_laws_calls.specs.course.declared.course.Wish.TheVariants as wishes
 use Rattle.dsql_laws_calls.specs.journal.declared.entry.Entry.{Entry}
 use Rattle.dsql_laws_calls.specs.journal.declared.entry.Owner.{Owner}
-use Rattle.dsql_laws_calls.specs.journal.Kinds.{is_call, is_pin, number_of}
+use Rattle.dsql_laws_calls.specs.journal.Kinds.{is_call, number_of}
 use Rattle.dsql_laws_calls.specs.pool.declared.conn.Place.TheVariants.{Lent}
 use Rattle.dsql_laws_calls.specs.history.Rules.Wishes.{wish_as}
 use Rattle.dsql_laws_calls.proofs.laws.Tests.{both, same_itself}
 use Rattle.dsql_laws_calls.proofs.laws_work.Rows.{not_true}
 use Rattle.dsql_laws_calls.specs.history.declared.event.Event.{Event}
-use Rattle.dsql_laws_calls.specs.history.declared.work.Scope.TheVariants.{Db, Held, Pinned, Within}
+use Rattle.dsql_laws_calls.specs.history.declared.work.Scope.TheVariants.{Db, Held}
 use Rattle.dsql_laws_calls.specs.history.declared.work.Work.{Work}
-use Rattle.dsql_laws_calls.specs.history.declared.work.Task.TheVariants.{HandOut}
-use Rattle.dsql_laws_calls.specs.history.declared.work.Work.TheVariants.{Statement, End, EndWithin, Unpin, Fetch, Close}
+use Rattle.dsql_laws_calls.specs.history.declared.work.Task.TheVariants.{Execute, ReadOne, HandOut}
+use Rattle.dsql_laws_calls.specs.history.declared.work.Work.TheVariants.{Statement, Begin, End, Ping, Fetch, Close, Look}
 use Rattle.dsql_laws_calls.specs.history.Readers.Calls.{decided, site}
 use Rattle.dsql_laws_calls.specs.history.Readers.HandedOut.{are_live, are_over, ender, rows_by}
 use Rattle.dsql_laws_calls.specs.history.Readers.Pool.{home, place}
 use Rattle.dsql_laws_calls.specs.history.Readers.Transactions.{is_begun, is_over, tx_ender}
 use Rattle.dsql_laws_calls.specs.history.Readers.Works.{asks, borrower, hands_out_in, is_fetch, scope, work}
 use Rattle.dsql_laws_calls.specs.history.Rules.Ending.{ending}
-use Rattle.dsql_laws_calls.specs.history.Rules.Line.{due_for, due_in, is_due, is_due_at, is_used, may_come, parts, tidying, tidying_for}
+use Rattle.dsql_laws_calls.specs.history.Rules.Line.{due_for, due_in, is_due, is_due_at, is_used, may_come, parts, tidying}
 use Rattle.dsql_laws_calls.specs.history.Rules.Sent.{closes, close_due, line_of, sent_for, wish}
 use Rattle.dsql_laws_calls.specs.history.Legal.{Lawful}
 use Rattle.dsql_laws_calls.proofs.Beginnings.{begin_owner}
 use Rattle.dsql_laws_calls.proofs.Begun.{begun_begins, over_begun}
 use Rattle.dsql_laws_calls.proofs.CallTenures.{call_line, line_of_call}
 use Rattle.dsql_laws_calls.proofs.Coming.{sound}
-use Rattle.dsql_laws_calls.proofs.DueWay.{borrow_same, call_no_pin}
+use Rattle.dsql_laws_calls.proofs.DueWay.{borrow_same}
 use Rattle.dsql_laws_calls.proofs.EndedRows.{rows_kept}
 use Rattle.dsql_laws_calls.proofs.HandedRows.{rows_begun}
-use Rattle.dsql_laws_calls.proofs.Lent.{remains_lent, unparted}
+use Rattle.dsql_laws_calls.proofs.Lent.{stays_lent}
 use Rattle.dsql_laws_calls.proofs.Lines.{line_here, line_stays, unheard}
 use Rattle.dsql_laws_calls.proofs.Makers.{hands_out, rows_hand_out, sent_made}
 use Rattle.dsql_laws_calls.proofs.Own.{asks_own, due_now, due_of, DueNow, some_due}
@@ -44,8 +44,6 @@ use Rattle.dsql_laws_calls.proofs.UnderWay.{at_number, clash, ending_over, line_
 use Rattle.dsql_laws_calls.proofs.Why.{why_used}
 use Rattle.dsql_laws_due.proofs.Holds.{IsOther}
 use Rattle.dsql_laws_due.proofs.OnRows.{closed_over, fetch_of}
-use Rattle.dsql_laws_due.proofs.Pins.{off_pin, pinned_borrows, pinned_none, tidying_here}
-use Rattle.dsql_laws_replies.specs.OnPins.{on_pin}
 
 -- Holds if the driver call closes the rows of the call that has the connection, or fetches from them.
 pub record CallWay (H : List Event) (c t : ℕ) (own : Owner) (m : ℕ) (q : DriverCall) : Type 0 where
@@ -54,7 +52,7 @@ pub record CallWay (H : List Event) (c t : ℕ) (own : Owner) (m : ℕ) (q : Dri
   pub kind : ((wish ≡ wishes.Close) × (are_over H (number_of own) ≡ true)) ⊎ ((wish ≡ wishes.Fetch) × (work H m ≡ Fetch (number_of own)))
 
 pub call_unbegun : {A : Type 0} (H : List Event) (c t : ℕ) (own : Owner) → Lawful H → place H c ≡ Some (Lent t own) → is_call own ≡ true → is_begun H (number_of own) ≡ true → A
-call_unbegun H c t own l is call begun = clash (sym call ∙ begin_owner H c t own l is (begun_begins H (number_of own) l (lent_asks H c t own l is) begun))
+call_unbegun H c t own l is call begun = clash (sym call ∙ begin_owner H c t own l is (begun_begins H (number_of own) l begun))
 
 module _ (H : List Event) (e : Entry) (own : Owner) (l : Lawful H) (lent : place H e.conn ≡ Some (Lent e.tenure own)) (call : is_call own ≡ true) where
   -- What is due in the call's line is due there.
@@ -93,9 +91,6 @@ module _ (H : List Event) (e : Entry) (own : Owner) (l : Lawful H) (lent : place
       here : site H j ≡ e.conn
       here = ap (home H) (sym (borrow_same H e.call_no j which (rows_hand_out H j (sent_made H e.call_no j some (some_due (sent_for H j (wish H e.call_no j)) e.call due))))) ∙ d.site some
 
-      none_on_pin : {A : Type 0} → number_of own ≡ borrower H j → on_pin (scope (work H j)) ≡ true → A
-      none_on_pin number on = pinned_none H e.conn e.tenure own j l lent (call_no_pin own call) (pinned_borrows H j on ∙ sym number)
-
       -- The rows are the call's own.
       itself : number_of own ≡ borrower H j → j ≡ number_of own
       itself number = of_work (work H j) refl (rows_hand_out H j rows)
@@ -105,8 +100,6 @@ module _ (H : List Event) (e : Entry) (own : Owner) (l : Lawful H) (lent : place
           of_work (Statement (Held k) (HandOut label)) its x =
               let at : number_of own ≡ k = number ∙ rw its refl in
               call_unbegun H e.conn e.tenure own l lent call (ap (is_begun H) at ∙ rows_begun H j k l rows (ap (hands_out_in k) its ∙ same_itself k))
-          of_work (Statement (Pinned p) (HandOut label)) its x = none_on_pin number (ap (λ v. on_pin (scope v)) its)
-          of_work (Statement (Within p k) (HandOut label)) its x = none_on_pin number (ap (λ v. on_pin (scope v)) its)
           of_work v its x = absurd cc
 
       wanted : (w : Wish) → is_due (line_of H j w) e.call ≡ true → ((w ≡ wishes.Close) × (are_over H j ≡ true)) ⊎ ((w ≡ wishes.Fetch) × (work H e.call_no ≡ Fetch j)) → CallWay H e.conn e.tenure own e.call_no e.call
@@ -128,10 +121,7 @@ module _ (H : List Event) (e : Entry) (own : Owner) (l : Lawful H) (lent : place
       same_lent : (o p : Owner) → Some (Lent e.tenure o) ≡ Some (Lent e.tenure p) → o ≡ p
       same_lent o p k = cc
 
-      off : (d : DueNow H e) → is_pin d.owner ≡ false
-      off d = ap is_pin (same_lent d.owner own (sym d.lent ∙ lent)) ∙ call_no_pin own call
-
-      work_of : (d : DueNow H e) → (e.call_no == 0) ≡ false → (w : Work) → work H e.call_no ≡ w → asks w ≡ false → scope w ≡ Db → is_due (due_in H e.call_no w) e.call ≡ true → CallWay H e.conn e.tenure own e.call_no e.call
+      work_of : DueNow H e → (e.call_no == 0) ≡ false → (w : Work) → work H e.call_no ≡ w → asks w ≡ false → scope w ≡ Db → is_due (due_in H e.call_no w) e.call ≡ true → CallWay H e.conn e.tenure own e.call_no e.call
       work_of d some (Fetch j) is_work a s x = over_way j d some (inl is_work) x
       work_of d some (Close j) is_work a s x = over_way j d some (inr is_work) x
       work_of d some (End k) is_work a s x = by_ender (tx_ender H k == e.call_no) x
@@ -142,17 +132,23 @@ module _ (H : List Event) (e : Entry) (own : Owner) (l : Lawful H) (lent : place
               let at : home H k ≡ e.conn = ap (home H) (sym uses) ∙ d.site some in
               ends_none k (at_number H k e.conn e.tenure own (some_due (ending H k) e.call y) at lent) y
           by_ender false y = absurd cc
-      work_of d some (EndWithin p k) is_work a s x = off_pin H e l d (off d) some (rw is_work refl)
-      work_of d some (Unpin p) is_work a s x = off_pin H e l d (off d) some (rw is_work refl)
-      work_of d some w is_work a s x = absurd cc
+      work_of d some Look is_work a s x = absurd cc
+      work_of d some (Statement Db Execute) is_work a s x = absurd cc
+      work_of d some (Statement (Held k) Execute) is_work a s x = absurd cc
+      work_of d some (Statement Db (ReadOne dests)) is_work a s x = absurd cc
+      work_of d some (Statement (Held k) (ReadOne dests)) is_work a s x = absurd cc
+      work_of d some (Statement Db (HandOut label)) is_work a s x = absurd cc
+      work_of d some (Statement (Held k) (HandOut label)) is_work a s x = absurd cc
+      work_of d some (Begin label level read_only) is_work a s x = absurd cc
+      work_of d some Ping is_work a s x = absurd cc
 
       whose : (b : Bool) → (e.call_no == 0) ≡ b → DueNow H e → CallWay H e.conn e.tenure own e.call_no e.call
       whose true none d =
           let same = same_lent d.owner own (sym d.lent ∙ lent) in
-          let due : is_due (tidying_for H d.owner) e.call ≡ true = ap (λ b. is_due (cond b (tidying_for H d.owner) (due_for H e.call_no)) e.call) (sym none) ∙ d.due in
-          layer (subst (λ o. is_due (tidying H (number_of o)) e.call ≡ true) same (ap (λ x. is_due x e.call) (sym (tidying_here H d.owner (off d))) ∙ due))
+          let due : is_due (tidying H (number_of d.owner)) e.call ≡ true = ap (λ b. is_due (cond b (tidying H (number_of d.owner)) (due_for H e.call_no)) e.call) (sym none) ∙ d.due in
+          layer (subst (λ o. is_due (tidying H (number_of o)) e.call ≡ true) same due)
       whose false some d =
-          let o = due_of H e.call_no e.call (ap (λ b. is_due (cond b (tidying_for H d.owner) (due_for H e.call_no)) e.call) (sym some) ∙ d.due) in
+          let o = due_of H e.call_no e.call (ap (λ b. is_due (cond b (tidying H (number_of d.owner)) (due_for H e.call_no)) e.call) (sym some) ∙ d.due) in
           work_of d some (work H e.call_no) refl its.asks_none its.outside o.due
 
 -- This stays so as long as nothing is heard there.
@@ -165,7 +161,7 @@ call_way_stays H last e own l on u same call now works w = record { wish = w.wis
 
     due : is_due (call_line (last ∷ H) e.conn e.tenure own w.wish) e.call ≡ true
     due =
-        let used = subst (λ o. is_used H (number_of o) ≡ true) same (why_used H e.conn e.tenure u.owner e.call_no l.0 u.lent (u.why (ap is_pin same ∙ call_no_pin own call))) in
+        let used = subst (λ o. is_used H (number_of o) ≡ true) same (why_used H e.conn e.tenure u.owner e.call_no l.0 u.lent u.why) in
         let busy = not_looking (work H (number_of own)) (lent_asks H e.conn e.tenure own l.0 lent) in
         ap (λ o. is_due o e.call)
         (sym (line_of_call (last ∷ H) e.conn e.tenure own w.wish l now call)
@@ -190,7 +186,7 @@ call_way (last ∷ H) e own l may is call its = by (call_way H e own l.0) (or_ca
         let b = both (not (parts last e)) (may_come H e) could in
         let s = sound H l.0 in
         let u = s.coming e b.1 in
-        let stays = remains_lent H last e.conn e.tenure u.owner l.0 l.1 u.lent (inr (inr (unparted last e (not_true (parts last e) b.0)))) in
+        let stays = stays_lent H last e.conn e.tenure u.owner l.0 l.1 u.lent (why_used H e.conn e.tenure u.owner e.call_no l.0 u.lent u.why) in
         let same = same_lent u.owner own (sym stays ∙ is) in
         let lent : place H e.conn ≡ Some (Lent e.tenure own) = subst (λ o. place H e.conn ≡ Some (Lent e.tenure o)) same u.lent in
         let works = coming_work H last e b.1 in

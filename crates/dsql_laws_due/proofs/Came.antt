@@ -6,12 +6,12 @@ use Rattle.dsql_laws_calls.specs.driver.declared.call.DriverCall.TheVariants as 
 use Rattle.dsql_laws_calls.specs.course.declared.course.Wish.TheVariants as wishes
 use Rattle.dsql_laws_calls.specs.journal.declared.entry.Entry.{Entry}
 use Rattle.dsql_laws_calls.specs.journal.declared.entry.Owner.{Owner}
-use Rattle.dsql_laws_calls.specs.journal.Kinds.{number_of}
+use Rattle.dsql_laws_calls.specs.journal.Kinds.{is_call, number_of}
 use Rattle.dsql_laws_calls.specs.pool.declared.conn.Place.TheVariants.{Lent}
 use Rattle.dsql_laws_calls.proofs.laws.Tests.{same_number}
 use Rattle.dsql_laws_calls.specs.history.declared.event.Event.{Event}
 use Rattle.dsql_laws_calls.specs.history.declared.work.Scope.{Scope}
-use Rattle.dsql_laws_calls.specs.history.declared.work.Scope.TheVariants.{Db, Held, Pinned, Within}
+use Rattle.dsql_laws_calls.specs.history.declared.work.Scope.TheVariants.{Db, Held}
 use Rattle.dsql_laws_calls.specs.history.Readers.Course.{caps}
 use Rattle.dsql_laws_calls.specs.history.Readers.Unfinished.{is_unfinished}
 use Rattle.dsql_laws_calls.specs.history.Readers.Works.{work, scope, asks}
@@ -32,8 +32,6 @@ use Rattle.dsql_laws_calls.proofs.Sound.{Sound}
 use Rattle.dsql_laws_calls.proofs.UnderWay.{InsideWay, UnderWay, clash}
 use Rattle.dsql_laws_due.proofs.Holds.{TxWay, IsOther, Holds}
 use Rattle.dsql_laws_due.proofs.Ways.{owner_begins}
-use Rattle.dsql_laws_due.proofs.Pins.{is_tx, pinned_borrows, pinned_none, tx_no_call, tx_no_pin}
-use Rattle.dsql_laws_replies.specs.OnPins.{on_pin}
 
 -- Holds if the driver call is of the transaction's begin, which hasn't begun the transaction yet.
 pub record BeginsWay (H : List Event) (c t : ℕ) (own : Owner) (m : ℕ) (q : DriverCall) : Type 0 where
@@ -61,7 +59,7 @@ same_lent : (t u : ℕ) (o p : Owner) → Some (Lent t o) ≡ Some (Lent u p) �
 same_lent t u o p h = cc
 
 -- A driver call of a begin is due only before its transaction is begun.
-begins_way : (H : List Event) (e : Entry) (own : Owner) → Lawful H → place H e.conn ≡ Some (Lent e.tenure own) → is_tx own ≡ true → OwnWay H e → BeginsWay H e.conn e.tenure own e.call_no e.call
+begins_way : (H : List Event) (e : Entry) (own : Owner) → Lawful H → place H e.conn ≡ Some (Lent e.tenure own) → is_call own ≡ false → OwnWay H e → BeginsWay H e.conn e.tenure own e.call_no e.call
 begins_way H e own l is other u = record { itself = ap number_of (sym same) ∙ u.own; unbegun = by (is_begun H (number_of own)) refl; unfinished = u.unfinished; due = due }
   where
     same : u.owner ≡ own
@@ -76,19 +74,16 @@ begins_way H e own l is other u = record { itself = ap number_of (sym same) ∙ 
     by : (b : Bool) → is_begun H (number_of own) ≡ b → b ≡ false
     by true begun =
         let b = beginnings H l in
-        let at = begin_there H e.conn e.tenure own (owner_begins H e.conn e.tenure own l is other) (tx_no_call own other) in
+        let at = begin_there H e.conn e.tenure own (owner_begins H e.conn e.tenure own l is other) other in
         let none = began_sends_none (caps H) (is_reset_due H e.conn) (calls.Begin at.0 at.1) (line_among (number_of own) (heard_in H e.conn e.tenure)) (b.began e.conn e.tenure own is begun) in
         clash (sym sends ∙ (ap (λ d. is_some d) at.2 ∙ none))
     by false begun = refl
 
-pub came : (H : List Event) (e : Entry) (own : Owner) → Lawful H → Sound H → Holds H → may_come H e ≡ true → place H e.conn ≡ Some (Lent e.tenure own) → is_tx own ≡ true → Came H e.conn e.tenure own e.call_no e.call
+pub came : (H : List Event) (e : Entry) (own : Owner) → Lawful H → Sound H → Holds H → may_come H e ≡ true → place H e.conn ≡ Some (Lent e.tenure own) → is_call own ≡ false → Came H e.conn e.tenure own e.call_no e.call
 came H e own l s h may is other = by (e.call_no == 0) refl
   where
     another : asks (work H e.call_no) ≡ false → scope (work H e.call_no) ≡ Db → Came H e.conn e.tenure own e.call_no e.call
     another a s_is = let its : IsOther H e.call_no = record { asks_none = a; outside = s_is } in inr (inr (record { other = its; way = h.coming e own may is other its }))
-
-    never : (b : Bool) → b ≡ true → b ≡ false → ⊥
-    never b x y = cc
 
     within : (u : UnderWay H e) → (e.call_no == 0) ≡ false → (k : ℕ) → scope (work H e.call_no) ≡ Held k → Came H e.conn e.tenure own e.call_no e.call
     within u some k inner =
@@ -105,19 +100,13 @@ came H e own l s h may is other = by (e.call_no == 0) refl
           unfinished = u.unfinished numbered;
           way = subst (λ o. InsideWay H e.conn e.tenure o e.call_no e.call) same (u.within mine);
         }))
-
-    -- No call on a pin sends there.
-    outside : (u : UnderWay H e) → (e.call_no == 0) ≡ false → on_pin (scope (work H e.call_no)) ≡ true → Came H e.conn e.tenure own e.call_no e.call
-    outside u some on =
-        let same = same_lent e.tenure e.tenure u.owner own (sym u.lent ∙ is) in
-        pinned_none H e.conn e.tenure own e.call_no l is (tx_no_pin own other)
-        (pinned_borrows H e.call_no on ∙ (u.borrowed (λ none. never (e.call_no == 0) (ap (λ j. j == 0) none) some) ∙ ap number_of same))
+      where
+        never : (b : Bool) → b ≡ true → b ≡ false → ⊥
+        never b x y = cc
 
     scoped : (sc : Scope) → scope (work H e.call_no) ≡ sc → (e.call_no == 0) ≡ false → asks (work H e.call_no) ≡ false → Came H e.conn e.tenure own e.call_no e.call
     scoped Db its some a = another a its
     scoped (Held k) its some a = within (s.coming e may) some k its
-    scoped (Pinned p) its some a = outside (s.coming e may) some (ap on_pin its)
-    scoped (Within p k) its some a = outside (s.coming e may) some (ap on_pin its)
 
     asking : (b : Bool) → asks (work H e.call_no) ≡ b → (e.call_no == 0) ≡ false → Came H e.conn e.tenure own e.call_no e.call
     asking true a some = inl (begins_way H e own l is other (own_way H e l may some a))

@@ -3,7 +3,7 @@ use Rattle.std.proofs.Common.{◌≡◌, ◌≢◌, ℕ, ◌==◌, inl, inr, Boo
 use Rattle.dsql_laws_calls.specs.course.declared.course.Wish.TheVariants as wishes
 use Rattle.dsql_laws_calls.specs.course.Made.{Exchange, or_else, own_cursor}
 use Rattle.dsql_laws_calls.specs.journal.declared.entry.Owner.{Owner}
-use Rattle.dsql_laws_calls.specs.journal.Kinds.{is_call, is_pin, number_of}
+use Rattle.dsql_laws_calls.specs.journal.Kinds.{is_call, number_of}
 use Rattle.dsql_laws_calls.specs.journal.Readers.{went_bad}
 use Rattle.dsql_laws_calls.specs.pool.declared.conn.Place.TheVariants.{Lent}
 use Rattle.dsql_laws_calls.specs.rows.declared.rows.Rows.{Rows}
@@ -16,7 +16,7 @@ use Rattle.dsql_laws_calls.proofs.laws.Tests.{other_number, same_itself}
 use Rattle.dsql_laws_calls.specs.history.declared.event.Event.{Event}
 use Rattle.dsql_laws_calls.specs.history.declared.reply.Reply.{Reply}
 use Rattle.dsql_laws_calls.specs.history.declared.reply.Reply.TheVariants.{Truth}
-use Rattle.dsql_laws_calls.specs.history.declared.work.Scope.TheVariants.{Db, Held, Pinned, Within}
+use Rattle.dsql_laws_calls.specs.history.declared.work.Scope.TheVariants.{Db, Held}
 use Rattle.dsql_laws_calls.specs.history.declared.work.Work.{Work}
 use Rattle.dsql_laws_calls.specs.history.declared.work.Task.TheVariants.{HandOut}
 use Rattle.dsql_laws_calls.specs.history.declared.work.Work.TheVariants.{Statement, Fetch}
@@ -33,7 +33,7 @@ use Rattle.dsql_laws_calls.specs.history.Legal.{Lawful}
 use Rattle.dsql_laws_tenures.specs.Tenures.{made_by}
 use Rattle.dsql_laws_calls.specs.Kept.{KeepsItsConnection}
 use Rattle.dsql_laws_calls.proofs.CallTenures.{line_of_call}
-use Rattle.dsql_laws_calls.proofs.DueWay.{call_no_pin, inner_is}
+use Rattle.dsql_laws_calls.proofs.DueWay.{inner_is}
 use Rattle.dsql_laws_calls.proofs.EndedRows.{live_no_ender}
 use Rattle.dsql_laws_calls.proofs.HandedRows.{rows_begun}
 use Rattle.dsql_laws_calls.proofs.Lines.{line_here, line_there}
@@ -51,10 +51,6 @@ use Rattle.dsql_laws_due.proofs.LiveCalls.{going_line, live_going}
 use Rattle.dsql_laws_due.proofs.LiveLines.{live_open}
 use Rattle.dsql_laws_due.proofs.OpenLines.{open_inner}
 use Rattle.dsql_laws_due.proofs.Ways.{owner_begins}
-use Rattle.dsql_laws_calls.proofs.Owners.{owner_is_of}
-use Rattle.dsql_laws_calls.proofs.UnderWay.{clash}
-use Rattle.dsql_laws_replies.specs.OnPins.{on_pin}
-use Rattle.dsql_laws_due.proofs.Pins.{Kind, begun_tx, is_tx, kind, pinned_borrows, pinned_none, rows_owner, tx_no_call, tx_no_pin}
 
 -- From live rows a fetch sends a Next, as long as it has decided nothing.
 
@@ -67,9 +63,6 @@ handed_from (Statement s (HandOut label)) xs x y = y
 handed_from w xs x y = absurd cc
 
 module _ (H : List Event) (k c t : ℕ) (own : Owner) (l : Lawful H) (is : place H c ≡ Some (Lent t own)) (borrowed : number_of own ≡ borrower H k) (some : is_some (rows_by H k) ≡ true) (lives : are_live H k ≡ true) where
-  none_on_pin : {A : Type 0} → is_pin own ≡ false → on_pin (scope (work H k)) ≡ true → A
-  none_on_pin off on = pinned_none H c t own k l is off (pinned_borrows H k on ∙ sym borrowed)
-
   call_fetches : is_call own ≡ true → is_some (line_there H c t own k wishes.Fetch) ≡ true
   call_fetches call = subst (λ j. is_some (line_there H c t own j wishes.Fetch) ≡ true) itself there
     where
@@ -81,8 +74,6 @@ module _ (H : List Event) (k c t : ℕ) (own : Owner) (l : Lawful H) (is : place
           by (Statement (Held j) (HandOut label)) its x =
               let at : number_of own ≡ j = borrowed ∙ rw its refl in
               call_unbegun H c t own l is call (ap (is_begun H) at ∙ rows_begun H k j l some (ap (hands_out_in j) its ∙ same_itself j))
-          by (Statement (Pinned p) (HandOut label)) its x = none_on_pin (call_no_pin own call) (ap (λ v. on_pin (scope v)) its)
-          by (Statement (Within p j) (HandOut label)) its x = none_on_pin (call_no_pin own call) (ap (λ v. on_pin (scope v)) its)
           by w its x = absurd cc
 
       made : is_some (rows_by H (number_of own)) ≡ true
@@ -95,7 +86,7 @@ module _ (H : List Event) (k c t : ℕ) (own : Owner) (l : Lawful H) (is : place
           (line_of_call H c t own wishes.Fetch l is call
           ∙ going_line (caps H) (is_reset_due H c) (asked_by H (number_of own)) wishes.Fetch (heard_in H c t) r.0 r.1 (live_going H c t own l is call (ap (are_live H) itself ∙ lives)))
 
-  tx_fetches : is_tx own ≡ true → is_some (line_there H c t own k wishes.Fetch) ≡ true
+  tx_fetches : is_call own ≡ false → is_some (line_there H c t own k wishes.Fetch) ≡ true
   tx_fetches other = by (work H k) refl (rows_hand_out H k some)
     where
       kept : Kept H
@@ -105,7 +96,7 @@ module _ (H : List Event) (k c t : ℕ) (own : Owner) (l : Lawful H) (is : place
       from hands j scoped =
           let r = some_cursor (handed (aim_of (work H k)) (made_by k t (journal H c))) (kept.handed c t own is k hands some) in
           ap (λ d. is_some d)
-          (inner_is H c t own k wishes.Fetch j (tx_no_call own other) scoped
+          (inner_is H c t own k wishes.Fetch j other scoped
           ∙ open_inner (untested (caps H)) (went_bad (journal H c)) (asked_by H k) wishes.Fetch (made_by k t (journal H c)) r.0 r.1 (live_open H c t own l is other k hands lives))
 
       by : (w : Work) → work H k ≡ w → hands_out w ≡ true → is_some (line_there H c t own k wishes.Fetch) ≡ true
@@ -116,39 +107,18 @@ module _ (H : List Event) (k c t : ℕ) (own : Owner) (l : Lawful H) (is : place
       by (Statement (Held j) (HandOut label)) its x =
           let at : number_of own ≡ j = borrowed ∙ rw its refl in
           from (ap (λ i. hands_out_in i (work H k)) at ∙ (ap (hands_out_in j) its ∙ same_itself j)) j (ap scope its)
-      by (Statement (Pinned p) (HandOut label)) its x = none_on_pin (tx_no_pin own other) (ap (λ v. on_pin (scope v)) its)
-      by (Statement (Within p j) (HandOut label)) its x = none_on_pin (tx_no_pin own other) (ap (λ v. on_pin (scope v)) its)
       by w its x = absurd cc
 
-  -- The connection of rows on no pin is lent to no pin.
-  rows_off : {A : Type 0} → on_pin (scope (work H k)) ≡ false → is_pin own ≡ true → A
-  rows_off off pin = by (work H k) refl (rows_hand_out H k some)
-    where
-      by : {B : Type 0} (w : Work) → work H k ≡ w → hands_out w ≡ true → B
-      by (Statement Db (HandOut label)) its x =
-          let itself : number_of own ≡ k = borrowed ∙ rw its refl in
-          let o = owner_is_of H c t own l is in
-          let call = ap is_call o.1 ∙ rows_owner (work H (number_of own)) (number_of own) (ap (λ j. hands_out (work H j)) itself ∙ ap hands_out its) in
-          clash (sym pin ∙ call_no_pin own call)
-      by (Statement (Held j) (HandOut label)) its x =
-          let at : number_of own ≡ j = borrowed ∙ rw its refl in
-          let begun = ap (is_begun H) at ∙ rows_begun H k j l some (ap (hands_out_in j) its ∙ same_itself j) in
-          clash (sym pin ∙ tx_no_pin own (begun_tx H c t own l is begun))
-      by (Statement (Pinned p) (HandOut label)) its x = clash (sym (ap (λ v. on_pin (scope v)) its) ∙ off)
-      by (Statement (Within p j) (HandOut label)) its x = clash (sym (ap (λ v. on_pin (scope v)) its) ∙ off)
-      by w its x = absurd cc
-
-fetch_sends : (H : List Event) (k : ℕ) (r : Rows) → Lawful H → rows_by H k ≡ Some r → is_live r ≡ true → on_pin (scope (work H k)) ≡ false → is_some (line_of H k wishes.Fetch) ≡ true
-fetch_sends H k r l is lives off =
+fetch_sends : (H : List Event) (k : ℕ) (r : Rows) → Lawful H → rows_by H k ≡ Some r → is_live r ≡ true → is_some (line_of H k wishes.Fetch) ≡ true
+fetch_sends H k r l is lives =
     let keeps = rows_keep H k r l is lives in
     let live_here : are_live H k ≡ true = ap live is ∙ lives in
     let some : is_some (rows_by H k) ≡ true = ap (λ o. is_some o) is in
-    ap (λ d. is_some d) (line_here H (site H k) keeps.tenure keeps.owner k wishes.Fetch l keeps.lent (sym keeps.borrowed)) ∙ by keeps (kind H (site H k) keeps.tenure keeps.owner l keeps.lent) some live_here
+    ap (λ d. is_some d) (line_here H (site H k) keeps.tenure keeps.owner k wishes.Fetch l keeps.lent (sym keeps.borrowed)) ∙ by keeps (is_call keeps.owner) refl some live_here
   where
-    by : (x : KeepsItsConnection H k) → Kind x.owner → is_some (rows_by H k) ≡ true → are_live H k ≡ true → is_some (line_there H (site H k) x.tenure x.owner k wishes.Fetch) ≡ true
-    by x (inl call) some live_here = call_fetches H k (site H k) x.tenure x.owner l x.lent x.borrowed some live_here call
-    by x (inr (inl other)) some live_here = tx_fetches H k (site H k) x.tenure x.owner l x.lent x.borrowed some live_here other
-    by x (inr (inr pin)) some live_here = rows_off H k (site H k) x.tenure x.owner l x.lent x.borrowed some live_here off pin
+    by : (x : KeepsItsConnection H k) → (b : Bool) → is_call x.owner ≡ b → is_some (rows_by H k) ≡ true → are_live H k ≡ true → is_some (line_there H (site H k) x.tenure x.owner k wishes.Fetch) ≡ true
+    by x true call some live_here = call_fetches H k (site H k) x.tenure x.owner l x.lent x.borrowed some live_here call
+    by x false call some live_here = tx_fetches H k (site H k) x.tenure x.owner l x.lent x.borrowed some live_here call
 
 wishes_fetch : (H : List Event) (n k : ℕ) → n ≢ 0 → work H n ≡ Fetch k → are_live H k ≡ true → decided H n ≡ None → wish H n k ≡ wishes.Fetch
 wishes_fetch H n k some it lives none =
@@ -158,24 +128,23 @@ wishes_fetch H n k some it lives none =
     in
     ap (λ b. wish_as b (is_fetch (work H n) && (are_live H k && is_none (decided H n)))) ended ∙ ap (λ b. wish_as false b) fetches
 
-fetch_due : (H : List Event) (n k : ℕ) (r : Rows) → Lawful H → is_unfinished H n ≡ true → work H n ≡ Fetch k → rows_by H k ≡ Some r → is_live r ≡ true → on_pin (scope (work H k)) ≡ false → decided H n ≡ None → is_some (due_for H n) ≡ true
-fetch_due H n k r l u it is lives off none =
+fetch_due : (H : List Event) (n k : ℕ) (r : Rows) → Lawful H → is_unfinished H n ≡ true → work H n ≡ Fetch k → rows_by H k ≡ Some r → is_live r ≡ true → decided H n ≡ None → is_some (due_for H n) ≡ true
+fetch_due H n k r l u it is lives none =
     let wanted = wishes_fetch H n k (unfinished_from_one H n l u) it (ap live is ∙ lives) none in
     let its : due_for H n ≡ line_of H k wishes.Fetch =
     ap (λ (b : Bool). cond b (due_in H n (work H n)) None) u ∙ ap (due_in H n) it ∙ ap (sent_for H k) wanted
     in
-    ap (λ d. is_some d) its ∙ fetch_sends H k r l is lives off
+    ap (λ d. is_some d) its ∙ fetch_sends H k r l is lives
 
-pub fetch_replies : (H : List Event) (n k : ℕ) → Lawful H → is_unfinished H n ≡ true → work H n ≡ Fetch k → (are_live H k ≡ true → on_pin (scope (work H k)) ≡ false) → is_some (due_for H n) ≡ false
-    → is_some (reply_due H n) ≡ true
-fetch_replies H n k l u it off none = by (finds H n k l u it)
+pub fetch_replies : (H : List Event) (n k : ℕ) → Lawful H → is_unfinished H n ≡ true → work H n ≡ Fetch k → is_some (due_for H n) ≡ false → is_some (reply_due H n) ≡ true
+fetch_replies H n k l u it none = by (finds H n k l u it)
   where
     never : (b : Bool) → b ≡ true → b ≡ false → ⊥
     never b x y = cc
 
     undecided : (r : Rows) → rows_by H k ≡ Some r → is_live r ≡ true → (o : Option Reply) → decided H n ≡ o → is_some (or_else (or_else o (told_of_work H n (work H n))) (told_at_lending H n)) ≡ true
     undecided r is lives (Some reply) d = refl
-    undecided r is lives None d = absurd (never (is_some (due_for H n)) (fetch_due H n k r l u it is lives (off (ap live is ∙ lives)) d) none)
+    undecided r is lives None d = absurd (never (is_some (due_for H n)) (fetch_due H n k r l u it is lives d) none)
 
     with_rows : (r : Rows) (b : Bool) → rows_by H k ≡ Some r → is_live r ≡ b → is_some (reply_due H n) ≡ true
     with_rows r true is lives = undecided r is lives (decided H n) refl

@@ -16,7 +16,7 @@ use Rattle.dsql_laws_calls.specs.journal.declared.entry.Owner.TheVariants.{Call,
 use Rattle.dsql_laws_calls.specs.journal.Entries.{shut_entry}
 use Rattle.dsql_laws_calls.specs.journal.HandlesAndCursors.{fits_at_its_place}
 use Rattle.dsql_laws_calls.specs.journal.Journal.{may_follow}
-use Rattle.dsql_laws_calls.specs.journal.Kinds.{is_call, is_pin, number_of}
+use Rattle.dsql_laws_calls.specs.journal.Kinds.{is_call, number_of}
 use Rattle.dsql_laws_calls.specs.journal.Readers.{went_bad}
 use Rattle.dsql_laws_calls.specs.journal.Tenure.{is_whole_tenure}
 use Rattle.dsql_laws_calls.specs.pool.declared.conn.Place.TheVariants.{Closing, Lent}
@@ -41,7 +41,7 @@ use Rattle.dsql_laws_calls.specs.history.Readers.Transactions.{goes_on, is_begun
 use Rattle.dsql_laws_calls.specs.history.Readers.Works.{aim_of, scope, work}
 use Rattle.dsql_laws_calls.specs.history.Rules.Causes.{goes_in_turn}
 use Rattle.dsql_laws_calls.specs.history.Rules.Ending.{ending}
-use Rattle.dsql_laws_calls.specs.history.Rules.Line.{is_due, is_used, may_come, rest, rest_with, uses_pin}
+use Rattle.dsql_laws_calls.specs.history.Rules.Line.{is_due, is_used, may_come, rest, rest_with}
 use Rattle.dsql_laws_calls.specs.history.Rules.Sent.{asked_by, begin_after, begin_line, is_reset_due, untested}
 use Rattle.dsql_laws_calls.specs.history.Legal.{Lawful}
 use Rattle.dsql_laws_calls.specs.laws.Leaving.{MayLeave}
@@ -66,7 +66,7 @@ use Rattle.dsql_laws_calls.proofs.Owners.{owner_is_of}
 use Rattle.dsql_laws_calls.proofs.Plain as of_plain
 use Rattle.dsql_laws_calls.proofs.Plain.{line_plain}
 use Rattle.dsql_laws_calls.proofs.UnderWay.{clash, handed_there, UnderWay}
-use Rattle.dsql_laws_calls.proofs.Why.{ended_there, ending_some}
+use Rattle.dsql_laws_calls.proofs.Why.{ended_there, ending_some, scoped}
 use Rattle.dsql_laws_due.specs.Carried.{carried, is_outside}
 use Rattle.dsql_laws_due.proofs.CallRows.{finished}
 use Rattle.dsql_laws_due.proofs.Came.{BeginsWay, came, Came, InnerWay}
@@ -80,8 +80,6 @@ use Rattle.dsql_laws_due.proofs.Standing.{closing_leaves, lent_to, LentTo, lends
 use Rattle.dsql_laws_due.proofs.Stood.{stands}
 use Rattle.dsql_laws_due.proofs.TxTenures.{goes_on_tx, has_ended_tx, lent_to_tx}
 use Rattle.dsql_laws_due.proofs.Ways.{owner_begins}
-use Rattle.dsql_laws_calls.proofs.Scopes.{held_there}
-use Rattle.dsql_laws_due.proofs.Pins.{is_tx, tx_no_call}
 
 -- A connection that is lent to a call on the database.
 
@@ -180,13 +178,13 @@ end_carries k q a h = absurd cc
 
 -- A connection that is lent to a transaction.
 
-module _ (H : List Event) (e : Entry) (own : Owner) (l : Lawful H) (may : may_come H e ≡ true) (is : place H e.conn ≡ Some (Lent e.tenure own)) (mine : e.owner ≡ own) (other : is_tx own ≡ true)
+module _ (H : List Event) (e : Entry) (own : Owner) (l : Lawful H) (may : may_come H e ≡ true) (is : place H e.conn ≡ Some (Lent e.tenure own)) (mine : e.owner ≡ own) (other : is_call own ≡ false)
     (carries : e.tx ≡ carried own e.call e.answer) (fits : fits_at_its_place (journal H e.conn) e ≡ true) where
   kept : Kept H
   kept = let h = holds H l in h.kept
 
   owner : own ≡ Tx (number_of own)
-  owner = owner_tx own other
+  owner = owner_tx H e.conn e.tenure own l is other
 
   tx_is : e.tx ≡ cond (is_outside e.call e.answer) 0 (number_of own)
   tx_is = carries ∙ ap (λ o. carried o e.call e.answer) owner
@@ -234,7 +232,7 @@ module _ (H : List Event) (e : Entry) (own : Owner) (l : Lawful H) (may : may_co
       let line = line_facts H e.conn e.tenure n own kept is other inner in
       let steps = line_steps H e.conn e.tenure n own w e.call kept is other inner due in
       due_follows (caps H) (asked_by H n) w e.conn (number_of own) e.tenure n (journal H e.conn) e (goes_on_tx H e.conn e.tenure own l is other begun none)
-      (tx_in (step_carries (number_of own) e.call e.answer steps)) line.text line.order (ap (λ d. is_due d e.call) (sym (inner_is H e.conn e.tenure own n w (number_of own) (tx_no_call own other) inner)) ∙ due) fits
+      (tx_in (step_carries (number_of own) e.call e.answer steps)) line.text line.order (ap (λ d. is_due d e.call) (sym (inner_is H e.conn e.tenure own n w (number_of own) other inner)) ∙ due) fits
 
   inner_may : (w : InnerWay H e.conn e.tenure own e.call_no e.call) → may_follow (journal H e.conn) e ≡ true
   inner_may w = let i = w.way in by i.due i.left (ended_there (heard_in H e.conn e.tenure)) refl
@@ -249,7 +247,7 @@ module _ (H : List Event) (e : Entry) (own : Owner) (l : Lawful H) (may : may_co
   rows_may begun r = by r.left (ended_there (heard_in H e.conn e.tenure)) refl
     where
       inner : scope (work H r.n) ≡ In (number_of own)
-      inner = held_there H e.conn e.tenure own r.n l is r.hands
+      inner = scoped (work H r.n) (number_of own) r.hands
 
       by : (ended_there (heard_in H e.conn e.tenure) ≡ false) ⊎ (r.wish ≡ wishes.Close) → (b : Bool) → ended_there (heard_in H e.conn e.tenure) ≡ b → may_follow (journal H e.conn) e ≡ true
       by left false none = line_may r.n r.wish inner begun none r.due
@@ -290,9 +288,9 @@ module _ (H : List Event) (e : Entry) (own : Owner) (l : Lawful H) (may : may_co
       by (inr (inl w)) = inner_may w
       by (inr (inr w)) = let x = w.way in by_tx x.begun x.way
 
-pub follows_due : (H : List Event) (e : Entry) → Lawful H → may_come H e ≡ true → place H e.conn ≡ Some (Lent e.tenure e.owner) → is_pin e.owner ≡ false → e.tx ≡ carried e.owner e.call e.answer → fits_at_its_place (journal H e.conn) e ≡ true
+pub follows_due : (H : List Event) (e : Entry) → Lawful H → may_come H e ≡ true → place H e.conn ≡ Some (Lent e.tenure e.owner) → e.tx ≡ carried e.owner e.call e.answer → fits_at_its_place (journal H e.conn) e ≡ true
     → may_follow (journal H e.conn) e ≡ true
-follows_due H e l may is off carries fits = by e.owner refl is carries
+follows_due H e l may is carries fits = by e.owner refl is carries
   where
     never : {A : Type 0} (o : Owner) → place H e.conn ≡ Some (Lent e.tenure o) → ((s : LentTo e.conn (lends H e.conn) e.tenure o (journal H e.conn)) → ⊥) → A
     never o at none = absurd (none (lent_to H e.conn e.tenure o (stands H l e.conn) at))
@@ -300,7 +298,7 @@ follows_due H e l may is off carries fits = by e.owner refl is carries
     by : (o : Owner) → e.owner ≡ o → place H e.conn ≡ Some (Lent e.tenure o) → e.tx ≡ carried o e.call e.answer → may_follow (journal H e.conn) e ≡ true
     by (Call n) its at tx = call_follows H e n l may at its tx fits
     by (Tx n) its at tx = tx_follows H e (Tx n) l may at its refl tx fits
-    by (Pin n) its at tx = clash (sym (ap is_pin its) ∙ off)
+    by (Pin n) its at tx = never (Pin n) at (λ s. s)
     by House its at tx = never House at (λ s. s)
 
 -- A connection that isn't in use has a whole tenure.
@@ -313,7 +311,7 @@ call_whole H c t n l is unused =
     let done = finished H c t (Call n) l is refl unused in
     done_whole c t n (journal H c) (caps H) (is_reset_due H c) (asked_by H n) done.wish works.serves (f.made c t (Call n) is refl) done.none done.free
 
-tx_whole : (H : List Event) (c t : ℕ) (own : Owner) → Lawful H → place H c ≡ Some (Lent t own) → is_tx own ≡ true → is_used H (number_of own) ≡ false → is_whole_tenure t (journal H c) ≡ true
+tx_whole : (H : List Event) (c t : ℕ) (own : Owner) → Lawful H → place H c ≡ Some (Lent t own) → is_call own ≡ false → is_used H (number_of own) ≡ false → is_whole_tenure t (journal H c) ≡ true
 tx_whole H c t own l is other unused = by (is_begun H (number_of own)) refl
   where
     kept : Kept H
@@ -346,22 +344,17 @@ tx_whole H c t own l is other unused = by (is_begun H (number_of own)) refl
     by false unbegun =
         whole_unbegun (caps H) (is_reset_due H c) (begin_of (work H (number_of own))) c (number_of own) t (journal H c) (lent_to_tx H c t own l is other unbegun)
 
-pub whole_when_unused : (H : List Event) (c t : ℕ) (own : Owner) → Lawful H → place H c ≡ Some (Lent t own) → is_pin own ≡ false → is_used H (number_of own) ≡ false → is_whole_tenure t (journal H c) ≡ true
-whole_when_unused H c t (Call n) l is off unused = call_whole H c t n l is unused
-whole_when_unused H c t (Tx n) l is off unused = tx_whole H c t (Tx n) l is refl unused
-whole_when_unused H c t (Pin n) l is off unused = absurd cc
-whole_when_unused H c t House l is off unused = absurd (lent_to H c t House (stands H l c) is)
+pub whole_when_unused : (H : List Event) (c t : ℕ) (own : Owner) → Lawful H → place H c ≡ Some (Lent t own) → is_used H (number_of own) ≡ false → is_whole_tenure t (journal H c) ≡ true
+whole_when_unused H c t (Call n) l is unused = call_whole H c t n l is unused
+whole_when_unused H c t (Tx n) l is unused = tx_whole H c t (Tx n) l is refl unused
+whole_when_unused H c t (Pin n) l is unused = absurd (lent_to H c t (Pin n) (stands H l c) is)
+whole_when_unused H c t House l is unused = absurd (lent_to H c t House (stands H l c) is)
 
 -- So the connection may leave.
-pub may_leave : (H : List Event) (c t : ℕ) (own : Owner) → Lawful H → owed H ≡ [] → place H c ≡ Some (Lent t own) → goes_in_turn H (place H c) ≡ true → is_used H (number_of own) ≡ false → uses_pin H own ≡ false
-    → (is_pin own ≡ true → is_whole_tenure t (journal H c) ≡ true) → MayLeave H c
-may_leave H c t own l none is turn unused unpinned on_pin =
+pub may_leave : (H : List Event) (c t : ℕ) (own : Owner) → Lawful H → owed H ≡ [] → place H c ≡ Some (Lent t own) → goes_in_turn H (place H c) ≡ true → is_used H (number_of own) ≡ false → MayLeave H c
+may_leave H c t own l none is turn unused =
     let o = owner_is_of H c t own l is in
-    record { owing = none; tenure = t; owner = own; lent = is; owned = o.0; turn = turn; unused = unused; unpinned = unpinned; whole = by (is_pin own) refl }
-  where
-    by : (b : Bool) → is_pin own ≡ b → is_whole_tenure t (journal H c) ≡ true
-    by true pin = on_pin pin
-    by false off = whole_when_unused H c t own l is off unused
+    record { owing = none; tenure = t; owner = own; lent = is; owned = o.0; turn = turn; unused = unused; whole = whole_when_unused H c t own l is unused }
 
 -- A connection that is being closed.
 

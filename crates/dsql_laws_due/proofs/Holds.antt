@@ -9,7 +9,7 @@ use Rattle.dsql_laws_calls.specs.course.declared.course.Wish.{Wish}
 use Rattle.dsql_laws_calls.specs.course.declared.course.Wish.TheVariants as wishes
 use Rattle.dsql_laws_calls.specs.journal.declared.entry.Entry.{Entry}
 use Rattle.dsql_laws_calls.specs.journal.declared.entry.Owner.{Owner}
-use Rattle.dsql_laws_calls.specs.journal.Kinds.{number_of}
+use Rattle.dsql_laws_calls.specs.journal.Kinds.{is_call, number_of}
 use Rattle.dsql_laws_calls.specs.journal.Readers.{went_bad}
 use Rattle.dsql_laws_calls.specs.pool.declared.conn.Place.TheVariants.{Lent}
 use Rattle.dsql_laws_calls.specs.works.Line.{Asked}
@@ -35,7 +35,6 @@ use Rattle.dsql_laws_calls.proofs.Quiet.{Quiet}
 use Rattle.dsql_laws_calls.proofs.UnderWay.{handed_there, line_made}
 use Rattle.dsql_laws_calls.proofs.Why.{ended_there}
 use Rattle.dsql_laws_due.proofs.LineEnds.{IsShut}
-use Rattle.dsql_laws_due.proofs.Pins.{is_tx}
 
 -- Returns what call n in transaction k asks.
 abbrev pub asked_in : List Event → ℕ → ℕ → Option Asked
@@ -58,13 +57,13 @@ pub record Opening (H : List Event) (c t : ℕ) (own : Owner) : Type 0 where
 -- What holds of each connection that is lent to a transaction.
 pub record Kept (H : List Event) : Type 0 where
   -- The driver calls in the lines were each due when they were sent.
-  pub lines : (c t : ℕ) (own : Owner) → place H c ≡ Some (Lent t own) → is_tx own ≡ true → KeepsLines (caps H) (asked_in H (number_of own)) t (journal H c)
+  pub lines : (c t : ℕ) (own : Owner) → place H c ≡ Some (Lent t own) → is_call own ≡ false → KeepsLines (caps H) (asked_in H (number_of own)) t (journal H c)
   -- A call that has its reply handed rows out, or has nothing more to send for good.
   pub rested : (c t : ℕ) (own : Owner) → place H c ≡ Some (Lent t own) → (m : ℕ) → scope (work H m) ≡ Held (number_of own) → is_unfinished H m ≡ false → has_sent m (journal H c) ≡ true
       → (handed_there H c t m ≡ true) ⊎ Quiet (caps H) (went_bad (journal H c)) (asked_by H m) (line_made H c t m)
   -- Rows that were made have their cursor in the line of their query.
   pub handed : (c t : ℕ) (own : Owner) → place H c ≡ Some (Lent t own) → (n : ℕ) → hands_out_in (number_of own) (work H n) ≡ true → is_some (rows_by H n) ≡ true → handed_there H c t n ≡ true
-  pub opening : (c t : ℕ) (own : Owner) → place H c ≡ Some (Lent t own) → is_tx own ≡ true → is_begun H (number_of own) ≡ false → Opening H c t own
+  pub opening : (c t : ℕ) (own : Owner) → place H c ≡ Some (Lent t own) → is_call own ≡ false → is_begun H (number_of own) ≡ false → Opening H c t own
   pub untested : (c t : ℕ) (own : Owner) → place H c ≡ Some (Lent t own) → is_begun H (number_of own) ≡ true → ended_there (heard_in H c t) ≡ false → list_any (λ x. is_valid x.call) (heard_in H c t) ≡ false
   pub ended : (c t : ℕ) (own : Owner) → place H c ≡ Some (Lent t own) → is_begun H (number_of own) ≡ true → ended_there (heard_in H c t) ≡ true → AllShut t (journal H c)
 
@@ -103,4 +102,4 @@ pub record IsOther (H : List Event) (m : ℕ) : Type 0 where
 
 pub record Holds (H : List Event) : Type 0 where
   pub kept : Kept H
-  pub coming : (e : Entry) (own : Owner) → may_come H e ≡ true → place H e.conn ≡ Some (Lent e.tenure own) → is_tx own ≡ true → IsOther H e.call_no → TxWay H e.conn e.tenure own e.call_no e.call
+  pub coming : (e : Entry) (own : Owner) → may_come H e ≡ true → place H e.conn ≡ Some (Lent e.tenure own) → is_call own ≡ false → IsOther H e.call_no → TxWay H e.conn e.tenure own e.call_no e.call

@@ -6,7 +6,7 @@ use Rattle.dsql_laws_calls.specs.driver.Kinds.{is_valid}
 use Rattle.dsql_laws_calls.specs.course.declared.course.Wish.TheVariants as wishes
 use Rattle.dsql_laws_calls.specs.journal.declared.entry.Entry.{Entry}
 use Rattle.dsql_laws_calls.specs.journal.declared.entry.Owner.{Owner}
-use Rattle.dsql_laws_calls.specs.journal.Kinds.{is_pin, number_of}
+use Rattle.dsql_laws_calls.specs.journal.Kinds.{is_call, number_of}
 use Rattle.dsql_laws_calls.specs.journal.Readers.{of_tenure, went_bad}
 use Rattle.dsql_laws_calls.specs.pool.declared.conn.Place.TheVariants.{Lent}
 use Rattle.dsql_laws_calls.proofs.laws_work.Rows.{not_true, same_or_not}
@@ -32,16 +32,16 @@ use Rattle.dsql_laws_calls.proofs.Begun.{BeginsIt, begun_begins, heard_tx, stays
 use Rattle.dsql_laws_calls.proofs.Coming.{sound}
 use Rattle.dsql_laws_calls.proofs.EndedRows.{rows_kept}
 use Rattle.dsql_laws_calls.proofs.Inside.{inside_uses, number_not}
-use Rattle.dsql_laws_calls.proofs.Lent.{remains_lent, unparted}
+use Rattle.dsql_laws_calls.proofs.Lent.{stays_lent}
 use Rattle.dsql_laws_calls.proofs.Lines.{line_stays, unheard}
 use Rattle.dsql_laws_calls.proofs.Looks.{comes, heard_there}
 use Rattle.dsql_laws_calls.proofs.Makers.{hands_out, some_heard}
-use Rattle.dsql_laws_calls.proofs.Owners.{at_home, lent_asks}
+use Rattle.dsql_laws_calls.proofs.Owners.{at_home}
 use Rattle.dsql_laws_calls.proofs.Quiet.{Quiet}
 use Rattle.dsql_laws_calls.proofs.Sound.{Sound}
 use Rattle.dsql_laws_calls.proofs.Stays.{work_stays}
 use Rattle.dsql_laws_calls.proofs.UnderWay.{handed_there, line_made, UnderWay}
-use Rattle.dsql_laws_calls.proofs.Why.{ended_there, why_used}
+use Rattle.dsql_laws_calls.proofs.Why.{ended_there, scoped, why_used}
 use Rattle.dsql_laws_due.proofs.Holds.{AllShut, asked_in, EndsWay, Holds, IsOther, Kept, Opening, RowsWay, TestsWay, TxWay}
 use Rattle.dsql_laws_due.proofs.KeptHeard.{ended_heard, handed_heard, journal_now, lines_heard, opening_heard, rested_heard, untested_heard}
 use Rattle.dsql_laws_due.proofs.KeptQuiet.{kept_quiet}
@@ -51,8 +51,6 @@ use Rattle.dsql_laws_tenures.specs.Tenures.{IsOfTransaction}
 use Rattle.dsql_laws_calls.proofs.Plain as of_plain
 use Rattle.dsql_laws_calls.proofs.StaysUnderWay.{coming_work}
 use Rattle.dsql_laws_due.proofs.Ways.{due_tx_way}
-use Rattle.dsql_laws_calls.proofs.Scopes.{held_there}
-use Rattle.dsql_laws_due.proofs.Pins.{begun_tx, is_tx, tx_no_pin}
 
 -- An answer on another connection isn't to a call in the transaction.
 
@@ -74,7 +72,7 @@ rows_else H e c t own n l is apart hands some = by (some_heard H (work H e.call_
   where
     by : (is_some (rows_by H n) ≡ true) ⊎ ((n ≡ e.call_no) × (hands_out (work H e.call_no) ≡ true)) → is_some (rows_by H n) ≡ true
     by (inl were) = were
-    by (inr new) = absurd (apart (inner_here H e c t own l is (ap (λ j. scope (work H j)) (sym new.0) ∙ held_there H c t own n l.0 is hands)))
+    by (inr new) = absurd (apart (inner_here H e c t own l is (ap (λ j. scope (work H j)) (sym new.0) ∙ scoped (work H n) (number_of own) hands)))
 
 begun_else : (H : List Event) (e : Entry) (c t : ℕ) (own : Owner) → Lawful (Heard e ∷ H) → place H c ≡ Some (Lent t own) → e.conn ≢ c → is_begun (Heard e ∷ H) (number_of own) ≡ true → is_begun H (number_of own) ≡ true
 begun_else H e c t own l is apart begun = by (heard_tx H e (number_of own))
@@ -82,7 +80,7 @@ begun_else H e c t own l is apart begun = by (heard_tx H e (number_of own))
     by : (tx_by (Heard e ∷ H) (number_of own) ≡ tx_by H (number_of own)) ⊎ BeginsIt H e (number_of own) (tx_by (Heard e ∷ H) (number_of own)) → is_begun H (number_of own) ≡ true
     by (inl same) = sym (ap (λ o. is_some o) same) ∙ begun
     by (inr it) =
-        let begins_it = begun_begins (Heard e ∷ H) (number_of own) l (lent_asks H c t own l.0 is) begun in
+        let begins_it = begun_begins (Heard e ∷ H) (number_of own) l begun in
         let u = way_of H e l.0 l.1 (ap (λ j. of_plain.begins (work H j)) (sym it.own) ∙ begins_it) in
         absurd (apart (sym (at_home H e.conn e.tenure u.owner l.0 u.lent) ∙ (ap (home H) (u.own ∙ sym it.own) ∙ at_home H c t own l.0 is)))
 
@@ -153,7 +151,7 @@ kept_heard H e l s h = record {
     there : (c t : ℕ) (own : Owner) → place H c ≡ Some (Lent t own) → e.conn ≡ c → place H e.conn ≡ Some (Lent e.tenure own)
     there c t own is here = ap (place H) here ∙ (is ∙ ap (λ u. Some (Lent u own)) (sym (tenure_of c t own is here)))
 
-    now_of : (own : Owner) → place H e.conn ≡ Some (Lent e.tenure own) → is_tx own ≡ true → IsOfTransaction (number_of own) e.tenure (e ∷ journal H e.conn)
+    now_of : (own : Owner) → place H e.conn ≡ Some (Lent e.tenure own) → is_call own ≡ false → IsOfTransaction (number_of own) e.tenure (e ∷ journal H e.conn)
     now_of own lent other = subst (λ J. IsOfTransaction (number_of own) e.tenure J) (journal_now H e l s h own lent) (of_transaction (Heard e ∷ H) e.conn e.tenure own l lent other)
 
 -- What is under way.
@@ -187,7 +185,7 @@ tx_way_stays H last e own l on u same works w = record { begun = stays_begun H l
     by : RowsWay H e.conn e.tenure own e.call_no e.call ⊎ (EndsWay H e.conn e.tenure e.call ⊎ TestsWay H e.conn e.tenure e.call)
         → RowsWay (last ∷ H) e.conn e.tenure own e.call_no e.call ⊎ (EndsWay (last ∷ H) e.conn e.tenure e.call ⊎ TestsWay (last ∷ H) e.conn e.tenure e.call)
     by (inl r) =
-        let used = subst (λ o. is_used H (number_of o) ≡ true) same (why_used H e.conn e.tenure u.owner e.call_no l.0 u.lent (u.why (ap is_pin same ∙ tx_no_pin own (begun_tx H e.conn e.tenure own l.0 lent w.begun)))) in
+        let used = subst (λ o. is_used H (number_of o) ≡ true) same (why_used H e.conn e.tenure u.owner e.call_no l.0 u.lent u.why) in
         let kept_rows = rows_kept H last r.n in
         inl (record {
           n = r.n;
@@ -208,7 +206,7 @@ tx_way_stays H last e own l on u same works w = record { begun = stays_begun H l
           untested = ap (λ J. list_any (λ y. is_valid y.call) (of_tenure e.tenure J)) quiet ∙ x.untested;
         }))
 
-comes_on : (H : List Event) (last : Event) → Lawful (last ∷ H) → Holds H → Kept (last ∷ H) → (e : Entry) (own : Owner) → may_come (last ∷ H) e ≡ true → place (last ∷ H) e.conn ≡ Some (Lent e.tenure own) → is_tx own ≡ true
+comes_on : (H : List Event) (last : Event) → Lawful (last ∷ H) → Holds H → Kept (last ∷ H) → (e : Entry) (own : Owner) → may_come (last ∷ H) e ≡ true → place (last ∷ H) e.conn ≡ Some (Lent e.tenure own) → is_call own ≡ false
     → IsOther (last ∷ H) e.call_no → TxWay (last ∷ H) e.conn e.tenure own e.call_no e.call
 comes_on H last l h kept e own may is other its =
     by (or_cases (is_due_at (last ∷ H) (place (last ∷ H) e.conn) e) (not (parts last e) && may_come H e) may)
@@ -220,7 +218,7 @@ comes_on H last l h kept e own may is other its =
     before on could =
         let s = sound H l.0 in
         let u = s.coming e could in
-        let stays = remains_lent H last e.conn e.tenure u.owner l.0 l.1 u.lent (inr (inr (unparted last e on))) in
+        let stays = stays_lent H last e.conn e.tenure u.owner l.0 l.1 u.lent (why_used H e.conn e.tenure u.owner e.call_no l.0 u.lent u.why) in
         let same = same_lent u.owner own (sym stays ∙ is) in
         let lent : place H e.conn ≡ Some (Lent e.tenure own) = subst (λ o. place H e.conn ≡ Some (Lent e.tenure o)) same u.lent in
         let works = coming_work H last e could in

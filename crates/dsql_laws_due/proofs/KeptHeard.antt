@@ -47,32 +47,29 @@ use Rattle.dsql_laws_tenures.specs.Sent.{KeepsLines}
 use Rattle.dsql_laws_tenures.specs.Tenures.{IsOfTransaction, made_by}
 use Rattle.dsql_laws_tenures.proofs.BeginKeeps.{whole_line}
 use Rattle.dsql_laws_tenures.proofs.LinesKept.{lines_more, lines_sent, lines_stepless}
-use Rattle.dsql_laws_calls.proofs.Beginnings.{begin_stepless, due_steps}
+use Rattle.dsql_laws_calls.proofs.Beginnings.{begin_owner, begin_stepless, due_steps}
 use Rattle.dsql_laws_calls.proofs.BeginningsAt.{heard_more}
-use Rattle.dsql_laws_calls.proofs.Begun.{BeginsIt, heard_tx, over_begun, stays_begun}
+use Rattle.dsql_laws_calls.proofs.Begun.{BeginsIt, begun_begins, heard_tx, over_begun, stays_begun}
 use Rattle.dsql_laws_calls.proofs.Inside.{inside_busy, number_not}
 use Rattle.dsql_laws_calls.proofs.LineParts.{grows, grows_own, fits_heard, heard_follows}
 use Rattle.dsql_laws_calls.proofs.Lines.{line_there}
 use Rattle.dsql_laws_calls.proofs.Looks.{heard_there}
 use Rattle.dsql_laws_calls.proofs.Makers.{hands_out, some_heard}
-use Rattle.dsql_laws_calls.proofs.Owners.{lent_asks}
 use Rattle.dsql_laws_calls.proofs.Plain.{begins, no_ending_due, with_ends}
 use Rattle.dsql_laws_calls.proofs.Quiet.{Quiet, quiet_bad, quiet_more}
 use Rattle.dsql_laws_calls.proofs.Sound.{Sound}
 use Rattle.dsql_laws_calls.proofs.Stays.{asked_stays}
 use Rattle.dsql_laws_calls.proofs.UnderWay.{clash, handed_there, line_made}
-use Rattle.dsql_laws_calls.proofs.Why.{ended_there}
+use Rattle.dsql_laws_calls.proofs.Why.{ended_there, scoped}
 use Rattle.dsql_laws_due.proofs.Came.{BeginsWay, Came, came, InnerWay}
 use Rattle.dsql_laws_due.proofs.Holds.{AllShut, asked_in, begin_of, EndsWay, Holds, Kept, Opening, RowsWay, TestsWay}
 use Rattle.dsql_laws_due.proofs.KeptStays.{asked_grows}
 use Rattle.dsql_laws_due.proofs.LineEnds.{IsShut}
 use Rattle.dsql_laws_due.proofs.LineFacts.{body_due, handed_grows, line_about, line_steps, shut_about, stepless_shut}
 use Rattle.dsql_laws_due.proofs.Ways.{owner_begins}
-use Rattle.dsql_laws_calls.proofs.Scopes.{held_there}
-use Rattle.dsql_laws_due.proofs.Pins.{begun_tx, is_tx, tx_no_call, tx_no_pin}
 
 -- The line of a begin is everything in its tenure, as long as its Begin isn't done.
-pub begin_due : (H : List Event) (c t : ℕ) (own : Owner) → is_tx own ≡ true → begins (work H (number_of own)) ≡ true → Opening H c t own
+pub begin_due : (H : List Event) (c t : ℕ) (own : Owner) → is_call own ≡ false → begins (work H (number_of own)) ≡ true → Opening H c t own
     → line_there H c t own (number_of own) wishes.Nothing ≡ begin_line (caps H) (is_reset_due H c) (begin_of (work H (number_of own))) (heard_in H c t)
 begin_due H c t own other begin o =
     by (work H (number_of own)) refl begin
@@ -80,7 +77,7 @@ begin_due H c t own other begin o =
   where
     by : (w : Work) → work H (number_of own) ≡ w → begins w ≡ true
         → line_there H c t own (number_of own) wishes.Nothing ≡ begin_line (caps H) (is_reset_due H c) (begin_of (work H (number_of own))) (line_among (number_of own) (heard_in H c t))
-    by (Begin label level read_only) is x = let call : is_call own ≡ false = tx_no_call own other in rw (is, call) refl
+    by (Begin label level read_only) is x = rw (is, other) refl
     by w is x = absurd cc
 
 begin_steps : (can : Caps) (reset : Bool) (w : Work) (L : List Entry) (q : DriverCall) → begins w ≡ true → is_due (begin_line can reset (begin_of w) L) q ≡ true → step_of q ≡ None
@@ -140,7 +137,7 @@ module _ (H : List Event) (e : Entry) (l : Lawful (Heard e ∷ H)) (s : Sound H)
   pub heard_now : heard_in (Heard e ∷ H) e.conn e.tenure ≡ e ∷ heard_in H e.conn e.tenure
   heard_now = heard_more H e e.conn e.tenure own l.1 lent refl
 
-  way : is_tx own ≡ true → Came H e.conn e.tenure own e.call_no e.call
+  way : is_call own ≡ false → Came H e.conn e.tenure own e.call_no e.call
   way other = came H e own l.0 s h may lent other
 
   -- The call that the answer is for has no reply.
@@ -153,20 +150,20 @@ module _ (H : List Event) (e : Entry) (l : Lawful (Heard e ∷ H)) (s : Sound H)
       never b x y = cc
 
   -- What a begin sends is no step of a course.
-  pub begin_step : BeginsWay H e.conn e.tenure own e.call_no e.call → is_tx own ≡ true → step_of e.call ≡ None
+  pub begin_step : BeginsWay H e.conn e.tenure own e.call_no e.call → is_call own ≡ false → step_of e.call ≡ None
   begin_step w other =
       let begin = owner_begins H e.conn e.tenure own l.0 lent other in
       let o = kept.opening e.conn e.tenure own lent other w.unbegun in
       begin_steps (caps H) (is_reset_due H e.conn) (work H (number_of own)) (heard_in H e.conn e.tenure) e.call begin (ap (λ d. is_due d e.call) (sym (begin_due H e.conn e.tenure own other begin o)) ∙ w.due)
 
-  inner_step : InnerWay H e.conn e.tenure own e.call_no e.call → is_tx own ≡ true → is_some (step_of e.call) ≡ true
+  inner_step : InnerWay H e.conn e.tenure own e.call_no e.call → is_call own ≡ false → is_some (step_of e.call) ≡ true
   inner_step w other = let i = w.way in line_steps H e.conn e.tenure e.call_no own wishes.Nothing e.call kept lent other w.inner i.due
 
-  rows_step : (w : RowsWay H e.conn e.tenure own e.call_no e.call) → is_tx own ≡ true → is_some (step_of e.call) ≡ true
-  rows_step w other = line_steps H e.conn e.tenure w.n own w.wish e.call kept lent other (held_there H e.conn e.tenure own w.n l.0 lent w.hands) w.due
+  rows_step : (w : RowsWay H e.conn e.tenure own e.call_no e.call) → is_call own ≡ false → is_some (step_of e.call) ≡ true
+  rows_step w other = line_steps H e.conn e.tenure w.n own w.wish e.call kept lent other (scoped (work H w.n) (number_of own) w.hands) w.due
 
-  begun_other : is_begun H (number_of own) ≡ true → is_tx own ≡ true
-  begun_other begun = begun_tx H e.conn e.tenure own l.0 lent begun
+  begun_other : is_begun H (number_of own) ≡ true → is_call own ≡ false
+  begun_other begun = begin_owner H e.conn e.tenure own l.0 lent (begun_begins H (number_of own) l.0 begun)
 
   -- The lines of calls.
 
@@ -175,12 +172,12 @@ module _ (H : List Event) (e : Entry) (l : Lawful (Heard e ∷ H)) (s : Sound H)
       ap (λ sc. cond (is_in (number_of own) sc) (Some (asked_by (Heard e ∷ H) n)) None) inner ∙ (ap (λ b. cond b (Some (asked_by (Heard e ∷ H) n)) None) (same_itself (number_of own))
       ∙ ap Some (asked_stays H (Heard e) n (inside_busy (work H n) (number_of own) inner)))
 
-  lines_now : is_tx own ≡ true → KeepsLines (caps H) (asked_in (Heard e ∷ H) (number_of own)) e.tenure (journal H e.conn)
+  lines_now : is_call own ≡ false → KeepsLines (caps H) (asked_in (Heard e ∷ H) (number_of own)) e.tenure (journal H e.conn)
   lines_now other =
       lines_more (caps H) (asked_in H (number_of own)) (asked_in (Heard e ∷ H) (number_of own)) e.tenure (journal H e.conn) (kept.lines e.conn e.tenure own lent other)
-      (asked_grows H (Heard e) e.conn e.tenure (number_of own) l (lent_asks H e.conn e.tenure own l.0 lent))
+      (asked_grows H (Heard e) e.conn e.tenure (number_of own) l)
 
-  lines_with : is_tx own ≡ true → IsOfTransaction (number_of own) e.tenure (e ∷ journal H e.conn) → Came H e.conn e.tenure own e.call_no e.call
+  lines_with : is_call own ≡ false → IsOfTransaction (number_of own) e.tenure (e ∷ journal H e.conn) → Came H e.conn e.tenure own e.call_no e.call
       → KeepsLines (caps H) (asked_in (Heard e ∷ H) (number_of own)) e.tenure (e ∷ journal H e.conn)
   lines_with other tenure (inl w) = lines_stepless (caps H) (asked_in (Heard e ∷ H) (number_of own)) e.tenure e (journal H e.conn) (lines_now other) (begin_step w other)
   lines_with other tenure (inr (inl w)) =
@@ -201,7 +198,7 @@ module _ (H : List Event) (e : Entry) (l : Lawful (Heard e ∷ H)) (s : Sound H)
 
       by : RowsWay H e.conn e.tenure own e.call_no e.call ⊎ (EndsWay H e.conn e.tenure e.call ⊎ TestsWay H e.conn e.tenure e.call) → KeepsLines (caps H) (asked_in (Heard e ∷ H) (number_of own)) e.tenure (e ∷ journal H e.conn)
       by (inl r) =
-          let inner = held_there H e.conn e.tenure own r.n l.0 lent r.hands in
+          let inner = scoped (work H r.n) (number_of own) r.hands in
           let hands = kept.handed e.conn e.tenure own lent r.n r.hands r.rows in
           lines_sent (caps H) (asked_in (Heard e ∷ H) (number_of own)) (number_of own) e.tenure r.n (asked_by H r.n) e (journal H e.conn) tenure (lines_now other)
           (record {
@@ -212,7 +209,7 @@ module _ (H : List Event) (e : Entry) (l : Lawful (Heard e ∷ H)) (s : Sound H)
       by (inr (inl x)) = stepless (ending_stepless e.call x.ends)
       by (inr (inr x)) = stepless (ap step_of x.tests)
 
-  pub lines_heard : is_tx own ≡ true → IsOfTransaction (number_of own) e.tenure (e ∷ journal H e.conn) → KeepsLines (caps (Heard e ∷ H)) (asked_in (Heard e ∷ H) (number_of own)) e.tenure (journal (Heard e ∷ H) e.conn)
+  pub lines_heard : is_call own ≡ false → IsOfTransaction (number_of own) e.tenure (e ∷ journal H e.conn) → KeepsLines (caps (Heard e ∷ H)) (asked_in (Heard e ∷ H) (number_of own)) e.tenure (journal (Heard e ∷ H) e.conn)
   lines_heard other tenure = subst (λ M. KeepsLines (caps H) (asked_in (Heard e ∷ H) (number_of own)) e.tenure M) (sym journal_now) (lines_with other tenure (way other))
 
   -- Rows that were handed out.
@@ -283,7 +280,7 @@ module _ (H : List Event) (e : Entry) (l : Lawful (Heard e ∷ H)) (s : Sound H)
   unbegun_before : is_begun (Heard e ∷ H) (number_of own) ≡ false → is_begun H (number_of own) ≡ true → ⊥
   unbegun_before unbegun begun = let wrong : true ≡ false = sym (stays_begun H (Heard e) (number_of own) begun) ∙ unbegun in cc
 
-  pub opening_heard : is_tx own ≡ true → is_begun (Heard e ∷ H) (number_of own) ≡ false → Opening (Heard e ∷ H) e.conn e.tenure own
+  pub opening_heard : is_call own ≡ false → is_begun (Heard e ∷ H) (number_of own) ≡ false → Opening (Heard e ∷ H) e.conn e.tenure own
   opening_heard other unbegun = by (way other)
     where
       by : Came H e.conn e.tenure own e.call_no e.call → Opening (Heard e ∷ H) e.conn e.tenure own
@@ -305,15 +302,15 @@ module _ (H : List Event) (e : Entry) (l : Lawful (Heard e ∷ H)) (s : Sound H)
 
   -- The end of the transaction.
 
-  unended : is_tx own ≡ true → is_begun H (number_of own) ≡ false → ended_there (heard_in H e.conn e.tenure) ≡ false
-  unended other unbegun = let f = s.facts in f.ends e.conn e.tenure own lent (tx_no_pin own other) (by (is_over H (number_of own)) refl)
+  unended : is_begun H (number_of own) ≡ false → ended_there (heard_in H e.conn e.tenure) ≡ false
+  unended unbegun = let f = s.facts in f.ends e.conn e.tenure own lent (by (is_over H (number_of own)) refl)
     where
       by : (b : Bool) → is_over H (number_of own) ≡ b → b ≡ false
       by true over = clash (sym (over_begun H (number_of own) over) ∙ unbegun)
       by false over = refl
 
-  now_begun : is_begun (Heard e ∷ H) (number_of own) ≡ true → is_tx own ≡ true
-  now_begun begun = begun_tx (Heard e ∷ H) e.conn e.tenure own l lent begun
+  now_begun : is_begun (Heard e ∷ H) (number_of own) ≡ true → is_call own ≡ false
+  now_begun begun = begin_owner (Heard e ∷ H) e.conn e.tenure own l lent (begun_begins (Heard e ∷ H) (number_of own) l begun)
 
   pub untested_heard : is_begun (Heard e ∷ H) (number_of own) ≡ true → ended_there (heard_in (Heard e ∷ H) e.conn e.tenure) ≡ false → list_any (λ x. is_valid x.call) (heard_in (Heard e ∷ H) e.conn e.tenure) ≡ false
   untested_heard begun none =
@@ -358,7 +355,7 @@ module _ (H : List Event) (e : Entry) (l : Lawful (Heard e ∷ H)) (s : Sound H)
   pub ended_heard : is_begun (Heard e ∷ H) (number_of own) ≡ true → ended_there (heard_in (Heard e ∷ H) e.conn e.tenure) ≡ true → AllShut e.tenure (journal (Heard e ∷ H) e.conn)
   ended_heard begun ends = subst (λ M. AllShut e.tenure M) (sym journal_now) (by (way other))
     where
-      other : is_tx own ≡ true
+      other : is_call own ≡ false
       other = now_begun begun
 
       ended_so : (is_ending e.call || ended_there (heard_in H e.conn e.tenure)) ≡ true
@@ -399,7 +396,7 @@ module _ (H : List Event) (e : Entry) (l : Lawful (Heard e ∷ H)) (s : Sound H)
 
       by_tx : is_begun H (number_of own) ≡ true → RowsWay H e.conn e.tenure own e.call_no e.call ⊎ (EndsWay H e.conn e.tenure e.call ⊎ TestsWay H e.conn e.tenure e.call) → AllShut e.tenure (e ∷ journal H e.conn)
       by_tx begun_so (inl r) =
-          let inner = held_there H e.conn e.tenure own r.n l.0 lent r.hands in
+          let inner = scoped (work H r.n) (number_of own) r.hands in
           about_shut r.n (rows_step r other) begun_so (line_about H e.conn e.tenure r.n own r.wish e.call kept lent other inner (kept.handed e.conn e.tenure own lent r.n r.hands r.rows) r.due)
       by_tx begun_so (inr (inl x)) = stepless_shut e.tenure e (journal H e.conn) (ending_stepless e.call x.ends) x.shut
       by_tx begun_so (inr (inr x)) = stepless_shut e.tenure e (journal H e.conn) (ap step_of x.tests) (kept.ended e.conn e.tenure own lent begun_so x.ended)
@@ -410,6 +407,6 @@ module _ (H : List Event) (e : Entry) (l : Lawful (Heard e ∷ H)) (s : Sound H)
           (with_ends (sender H (number_of own) e.conn wishes.Nothing) (line_in own (number_of own) (heard_in H e.conn e.tenure))) w.due
 
       by : Came H e.conn e.tenure own e.call_no e.call → AllShut e.tenure (e ∷ journal H e.conn)
-      by (inl w) = clash (sym (second (is_ending e.call) (ended_there (heard_in H e.conn e.tenure)) (begin_ending w) ended_so) ∙ unended other w.unbegun)
+      by (inl w) = clash (sym (second (is_ending e.call) (ended_there (heard_in H e.conn e.tenure)) (begin_ending w) ended_so) ∙ unended w.unbegun)
       by (inr (inl w)) = let i = w.way in inner_left w i.left
       by (inr (inr w)) = let x = w.way in by_tx x.begun x.way

@@ -14,17 +14,18 @@ use Rattle.dsql_laws_calls.specs.works.Exchanges.{exchanges}
 use Rattle.dsql_laws_calls.specs.works.Line.{Asked, handed}
 use Rattle.dsql_laws_calls.specs.works.declared.work.Aim.TheVariants as aims
 use Rattle.dsql_laws_calls.proofs.laws_work.Rows.{same_or_not}
-use Rattle.dsql_laws_calls.proofs.laws.Tests.{same_itself, other_number}
+use Rattle.dsql_laws_calls.proofs.laws.Tests.{same_number, same_itself, other_number}
 use Rattle.dsql_laws_calls.specs.history.declared.event.Event.{Event}
 use Rattle.dsql_laws_calls.specs.history.declared.event.Event.TheVariants.{Run, Entered, Heard, Pool, Waits, Ticked, SetLimit, Replied, Ended}
 use Rattle.dsql_laws_calls.specs.history.declared.reply.Reply.{Reply}
-use Rattle.dsql_laws_calls.specs.history.declared.work.Scope.TheVariants.{Held}
+use Rattle.dsql_laws_calls.specs.history.declared.work.Scope.{Scope}
+use Rattle.dsql_laws_calls.specs.history.declared.work.Scope.TheVariants.{Db, Held}
 use Rattle.dsql_laws_calls.specs.history.declared.work.Work.{Work}
 use Rattle.dsql_laws_calls.specs.history.declared.work.Task.TheVariants.{Execute, ReadOne, HandOut}
 use Rattle.dsql_laws_calls.specs.history.declared.work.Work.TheVariants.{Statement, Look}
 use Rattle.dsql_laws_calls.specs.history.Readers.Course.{caps}
 use Rattle.dsql_laws_calls.specs.history.Readers.Unfinished.{is_unfinished}
-use Rattle.dsql_laws_calls.specs.history.Readers.Works.{work, scope, asks, is_in, hands_out_in, borrower, aim_of}
+use Rattle.dsql_laws_calls.specs.history.Readers.Works.{work, scope, is_in, hands_out_in, borrower, aim_of}
 use Rattle.dsql_laws_calls.specs.history.Readers.Journals.{journal, heard_in}
 use Rattle.dsql_laws_calls.specs.history.Readers.Lines.{has_sent, line_among}
 use Rattle.dsql_laws_calls.specs.history.Readers.Pool.{place, home}
@@ -39,24 +40,23 @@ use Rattle.dsql_laws_tenures.specs.Orderly.{asks_text}
 use Rattle.dsql_laws_tenures.specs.Sent.{Grows, KeepsLines}
 use Rattle.dsql_laws_tenures.proofs.LinesKept.{lines_more}
 use Rattle.dsql_laws_calls.proofs.Lines.{caps_stay, line_here}
-use Rattle.dsql_laws_calls.proofs.Owners.{at_home, lent_asks}
-use Rattle.dsql_laws_calls.proofs.Stays.{asked_stays, not_looking, work_stays}
+use Rattle.dsql_laws_calls.proofs.Owners.{at_home}
+use Rattle.dsql_laws_calls.proofs.Stays.{asked_stays, work_stays}
 use Rattle.dsql_laws_calls.proofs.Works.{stays_unfinished}
 use Rattle.dsql_laws_calls.proofs.Wanters.{replies_now, still_without_reply}
 use Rattle.dsql_laws_calls.proofs.Inside.{hands_same, inside_busy, inside_uses, scope_stays, inside}
-use Rattle.dsql_laws_calls.proofs.Quiet.{Quiet, quiet_now}
+use Rattle.dsql_laws_calls.proofs.Quiet.{Quiet, next_inside, quiet_now}
 use Rattle.dsql_laws_calls.proofs.Quiet as of_quiet
 use Rattle.dsql_laws_calls.proofs.InnerLines.{Ordered}
 use Rattle.dsql_laws_calls.proofs.LineParts.{known_bad, unsent_in}
 use Rattle.dsql_laws_calls.proofs.StaysUnderWay.{sender_work}
 use Rattle.dsql_laws_calls.proofs.DueWay.{inner_is}
-use Rattle.dsql_laws_calls.proofs.Begun.{stays_begun}
-use Rattle.dsql_laws_calls.proofs.Beginnings.{begins_busy}
+use Rattle.dsql_laws_calls.proofs.Begun.{begun_begins, stays_begun}
+use Rattle.dsql_laws_calls.proofs.Beginnings.{begin_owner, begins_busy}
 use Rattle.dsql_laws_calls.proofs.Why.{ended_there}
 use Rattle.dsql_laws_calls.proofs.UnderWay.{handed_there, line_made, Going, Facts, clash}
 use Rattle.dsql_laws_due.proofs.Holds.{asked_in, begin_of, AllShut, Opening, Kept}
 use Rattle.dsql_laws_due.proofs.Ways.{owner_begins}
-use Rattle.dsql_laws_due.proofs.Pins.{begun_tx, in_scope, is_tx, tx_no_call}
 
 -- What calls in the transaction ask after the event.
 
@@ -65,6 +65,10 @@ text_in (Statement s Execute) k h = refl
 text_in (Statement s (ReadOne dests)) k h = refl
 text_in (Statement s (HandOut label)) k h = refl
 text_in w k h = absurd cc
+
+in_scope : (s : Scope) (k : ℕ) → is_in k s ≡ true → s ≡ Held k
+in_scope (Held n) k h = ap Held (same_number n k h)
+in_scope Db k h = absurd cc
 
 asked_some : (H : List Event) (k n : ℕ) (it : Asked) → asked_in H k n ≡ Some it → (is_in k (scope (work H n)) ≡ true) × (it ≡ asked_by H n)
 asked_some H k n it h = by (is_in k (scope (work H n))) refl h
@@ -77,12 +81,12 @@ pub asked_text : (H : List Event) (k n : ℕ) (it : Asked) → asked_in H k n �
 asked_text H k n it h = let a = asked_some H k n it h in ap (λ (x : Asked). asks_text x.aim) a.1 ∙ text_in (work H n) k a.0
 
 -- No call leaves the transaction.
-asked_on : (H : List Event) (e : Event) (k n : ℕ) → asks (work H k) ≡ true → asked_in (e ∷ H) k n ≡ None → asked_in H k n ≡ None
-asked_on H e k n asking h = by (is_in k (scope (work H n))) refl
+asked_on : (H : List Event) (e : Event) (k n : ℕ) → asked_in (e ∷ H) k n ≡ None → asked_in H k n ≡ None
+asked_on H e k n h = by (is_in k (scope (work H n))) refl
   where
     by : (b : Bool) → is_in k (scope (work H n)) ≡ b → cond b (Some (asked_by H n)) None ≡ None
     by true is =
-        let on = scope_stays H e n k (in_scope H n k asking is) in
+        let on = scope_stays H e n k (in_scope (scope (work H n)) k is) in
         let now : asked_in (e ∷ H) k n ≡ Some (asked_by (e ∷ H) n) =
         ap (λ s. cond (is_in k s) (Some (asked_by (e ∷ H) n)) None) on ∙ ap (λ b. cond b (Some (asked_by (e ∷ H) n)) None) (same_itself k)
         in
@@ -90,23 +94,22 @@ asked_on H e k n asking h = by (is_in k (scope (work H n))) refl
     by false is = refl
 
 -- A call that has sent something asks the same as before.
-asked_sent : (H : List Event) (e : Event) (c k n : ℕ) (it : Asked) → Lawful (e ∷ H) → asks (work H k) ≡ true → has_sent n (journal H c) ≡ true → asked_in (e ∷ H) k n ≡ Some it → asked_in H k n ≡ Some it
-asked_sent H e c k n it l asking sent h =
+asked_sent : (H : List Event) (e : Event) (c k n : ℕ) (it : Asked) → Lawful (e ∷ H) → has_sent n (journal H c) ≡ true → asked_in (e ∷ H) k n ≡ Some it → asked_in H k n ≡ Some it
+asked_sent H e c k n it l sent h =
     let a = asked_some (e ∷ H) k n it h in
-    let still : asks (work (e ∷ H) k) ≡ true = ap asks (work_stays H e k (not_looking (work H k) asking)) ∙ asking in
-    let same = sender_work H e n c k l sent (in_scope (e ∷ H) n k still a.0) in
+    let same = sender_work H e n c k l sent (in_scope (scope (work (e ∷ H) n)) k a.0) in
     let is : is_in k (scope (work H n)) ≡ true = sym (ap (λ w. is_in k (scope w)) same) ∙ a.0 in
-    let busy = inside_busy (work H n) k (in_scope H n k asking is) in
+    let busy = inside_busy (work H n) k (in_scope (scope (work H n)) k is) in
     ap (λ b. cond b (Some (asked_by H n)) None) is ∙ ap Some (sym (asked_stays H e n busy) ∙ sym a.1)
 
-pub asked_grows : (H : List Event) (e : Event) (c t k : ℕ) → Lawful (e ∷ H) → asks (work H k) ≡ true → Grows (asked_in H k) (asked_in (e ∷ H) k) (of_tenure t (journal H c))
-asked_grows H e c t k l asking = record { own = own; text = asked_text (e ∷ H) k; others = λ n h. asked_on H e k n asking h }
+pub asked_grows : (H : List Event) (e : Event) (c t k : ℕ) → Lawful (e ∷ H) → Grows (asked_in H k) (asked_in (e ∷ H) k) (of_tenure t (journal H c))
+asked_grows H e c t k l = record { own = own; text = asked_text (e ∷ H) k; others = asked_on H e k }
   where
     own : (n : ℕ) (it : Asked) → asked_in (e ∷ H) k n ≡ Some it → (asked_in H k n ≡ Some it) ⊎ (has_sent n (of_tenure t (journal H c)) ≡ false)
     own n it h = by (has_sent n (journal H c)) refl
       where
         by : (b : Bool) → has_sent n (journal H c) ≡ b → (asked_in H k n ≡ Some it) ⊎ (has_sent n (of_tenure t (journal H c)) ≡ false)
-        by true sent = inl (asked_sent H e c k n it l asking sent h)
+        by true sent = inl (asked_sent H e c k n it l sent h)
         by false sent = inr (unsent_in n t (journal H c) sent)
 
 lines_as : (ca cb : Caps) (asked : ℕ → Option Asked) (t : ℕ) (J M : List Entry) → cb ≡ ca → M ≡ J → KeepsLines ca asked t J → KeepsLines cb asked t M
@@ -115,10 +118,10 @@ lines_as ca cb asked t J M a b k = rw (a, b) k
 -- The event leaves the connection's journal as it was: it is no answer, or an answer on another connection.
 
 module _ (H : List Event) (e : Event) (l : Lawful (e ∷ H)) (f : Facts H) (kept : Kept H) (c t : ℕ) (own : Owner) (is : place H c ≡ Some (Lent t own)) (same : journal (e ∷ H) c ≡ journal H c) where
-  pub lines_same : is_tx own ≡ true → KeepsLines (caps (e ∷ H)) (asked_in (e ∷ H) (number_of own)) t (journal (e ∷ H) c)
+  pub lines_same : is_call own ≡ false → KeepsLines (caps (e ∷ H)) (asked_in (e ∷ H) (number_of own)) t (journal (e ∷ H) c)
   lines_same other =
       lines_as (caps H) (caps (e ∷ H)) (asked_in (e ∷ H) (number_of own)) t (journal H c) (journal (e ∷ H) c) (caps_stay H e c (Lent t own) l.1 is) same
-      (lines_more (caps H) (asked_in H (number_of own)) (asked_in (e ∷ H) (number_of own)) t (journal H c) (kept.lines c t own is other) (asked_grows H e c t (number_of own) l (lent_asks H c t own l.0 is)))
+      (lines_more (caps H) (asked_in H (number_of own)) (asked_in (e ∷ H) (number_of own)) t (journal H c) (kept.lines c t own is other) (asked_grows H e c t (number_of own) l))
 
   pub ended_same : is_begun H (number_of own) ≡ true → ended_there (heard_in (e ∷ H) c t) ≡ true → AllShut t (journal (e ∷ H) c)
   ended_same begun ended = subst (λ J. AllShut t J) (sym same) (kept.ended c t own is begun (sym (ap (λ J. ended_there (of_tenure t J)) same) ∙ ended))
@@ -127,7 +130,7 @@ module _ (H : List Event) (e : Event) (l : Lawful (e ∷ H)) (f : Facts H) (kept
   untested_same begun none =
       ap (λ J. list_any (λ x. is_valid x.call) (of_tenure t J)) same ∙ kept.untested c t own is begun (sym (ap (λ J. ended_there (of_tenure t J)) same) ∙ none)
 
-  pub opening_same : is_tx own ≡ true → is_reset_due (e ∷ H) c ≡ is_reset_due H c → is_begun (e ∷ H) (number_of own) ≡ false → Opening (e ∷ H) c t own
+  pub opening_same : is_call own ≡ false → is_reset_due (e ∷ H) c ≡ is_reset_due H c → is_begun (e ∷ H) (number_of own) ≡ false → Opening (e ∷ H) c t own
   opening_same other reset unbegun =
       let o = kept.opening c t own is other (before (is_begun H (number_of own)) refl) in
       let it = work_stays H e (number_of own) (begins_busy (work H (number_of own)) (owner_begins H c t own l.0 is other)) in
@@ -179,7 +182,7 @@ module _ (H : List Event) (e : Event) (l : Lawful (e ∷ H)) (f : Facts H) (kept
       begun = let i = inside H l.0 in i.sent m (number_of own) c sent inner
 
       other : is_call own ≡ false
-      other = tx_no_call own (begun_tx H c t own l.0 is begun)
+      other = begin_owner H c t own l.0 is (begun_begins H (number_of own) l.0 begun)
 
       uses_it : borrower H m ≡ number_of own
       uses_it = inside_uses H m (number_of own) inner

@@ -1,4 +1,3 @@
-pub mod Pins
 pub mod LineTails
 pub mod LineEnds
 pub mod Holds

@@ -10,7 +10,7 @@ use Rattle.dsql_laws_calls.specs.course.declared.course.Wish.{Wish}
 use Rattle.dsql_laws_calls.specs.course.Made.{Exchange, given_cursor, or_else, own_cursor}
 use Rattle.dsql_laws_calls.specs.journal.declared.entry.Entry.{Entry}
 use Rattle.dsql_laws_calls.specs.journal.declared.entry.Owner.{Owner}
-use Rattle.dsql_laws_calls.specs.journal.Kinds.{number_of}
+use Rattle.dsql_laws_calls.specs.journal.Kinds.{is_call, number_of}
 use Rattle.dsql_laws_calls.specs.journal.Readers.{of_tenure, went_bad}
 use Rattle.dsql_laws_calls.specs.driver.Kinds.{is_bad}
 use Rattle.dsql_laws_calls.specs.pool.declared.conn.Place.TheVariants.{Lent}
@@ -40,7 +40,6 @@ use Rattle.dsql_laws_calls.proofs.DueWay.{inner_is}
 use Rattle.dsql_laws_calls.proofs.UnderWay.{handed_there}
 use Rattle.dsql_laws_due.proofs.Holds.{asked_in, AllShut, Kept}
 use Rattle.dsql_laws_due.proofs.LineEnds.{IsShut}
-use Rattle.dsql_laws_due.proofs.Pins.{is_tx, tx_no_call}
 
 -- What is known of the line of call n in the transaction.
 pub record LineOf (H : List Event) (c t n : ℕ) (own : Owner) : Type 0 where
@@ -49,7 +48,7 @@ pub record LineOf (H : List Event) (c t n : ℕ) (own : Owner) : Type 0 where
   pub sent : WasSent (caps H) (asked_by H n) (made_by n t (journal H c))
   pub order : is_in_order (made_by n t (journal H c)) ≡ true
 
-pub line_facts : (H : List Event) (c t n : ℕ) (own : Owner) → Kept H → place H c ≡ Some (Lent t own) → is_tx own ≡ true → scope (work H n) ≡ Held (number_of own) → LineOf H c t n own
+pub line_facts : (H : List Event) (c t n : ℕ) (own : Owner) → Kept H → place H c ≡ Some (Lent t own) → is_call own ≡ false → scope (work H n) ≡ Held (number_of own) → LineOf H c t n own
 line_facts H c t n own kept is other inner =
     let keeps = kept.lines c t own is other in
     let asked : asked_in H (number_of own) n ≡ Some (asked_by H n) =
@@ -60,9 +59,9 @@ line_facts H c t n own kept is other inner =
     record { asked = asked; text = text; sent = sent; order = sent_in_order (caps H) (asked_by H n) (made_by n t (journal H c)) text sent }
 
 -- What is due in the line is due after its exchanges.
-pub body_due : (H : List Event) (c t n : ℕ) (own : Owner) (w : Wish) (q : DriverCall) → is_tx own ≡ true → scope (work H n) ≡ Held (number_of own) → is_due (line_there H c t own n w) q ≡ true
+pub body_due : (H : List Event) (c t n : ℕ) (own : Owner) (w : Wish) (q : DriverCall) → is_call own ≡ false → scope (work H n) ≡ Held (number_of own) → is_due (line_there H c t own n w) q ≡ true
     → is_due (body_after (untested (caps H)) (went_bad (journal H c)) (asked_by H n) w (made_by n t (journal H c))) q ≡ true
-body_due H c t n own w q other inner due = ap (λ d. is_due d q) (sym (inner_is H c t own n w (number_of own) (tx_no_call own other) inner)) ∙ due
+body_due H c t n own w q other inner due = ap (λ d. is_due d q) (sym (inner_is H c t own n w (number_of own) other inner)) ∙ due
 
 wrong : (b : Bool) → b ≡ true → b ≡ false → ⊥
 wrong b h k = cc
@@ -79,7 +78,7 @@ step_sent made bad (calls.CloseRows rows) s = refl
 step_sent made bad (calls.CloseStmt handle) s = refl
 step_sent made bad q s = absurd s
 
-pub line_steps : (H : List Event) (c t n : ℕ) (own : Owner) (w : Wish) (q : DriverCall) → Kept H → place H c ≡ Some (Lent t own) → is_tx own ≡ true → scope (work H n) ≡ Held (number_of own)
+pub line_steps : (H : List Event) (c t n : ℕ) (own : Owner) (w : Wish) (q : DriverCall) → Kept H → place H c ≡ Some (Lent t own) → is_call own ≡ false → scope (work H n) ≡ Held (number_of own)
     → is_due (line_there H c t own n w) q ≡ true → is_some (step_of q) ≡ true
 line_steps H c t n own w q kept is other inner due =
     let line = line_facts H c t n own kept is other inner in
@@ -87,7 +86,7 @@ line_steps H c t n own w q kept is other inner due =
     (body_sends (caps H) (asked_by H n) (went_bad (journal H c)) w (made_by n t (journal H c)) q line.text line.order (body_due H c t n own w q other inner due))
 
 -- A driver call that is due over rows that the call handed out is about these rows.
-pub line_about : (H : List Event) (c t n : ℕ) (own : Owner) (w : Wish) (q : DriverCall) → Kept H → place H c ≡ Some (Lent t own) → is_tx own ≡ true → scope (work H n) ≡ Held (number_of own)
+pub line_about : (H : List Event) (c t n : ℕ) (own : Owner) (w : Wish) (q : DriverCall) → Kept H → place H c ≡ Some (Lent t own) → is_call own ≡ false → scope (work H n) ≡ Held (number_of own)
     → handed_there H c t n ≡ true → is_due (line_there H c t own n w) q ≡ true → is_about (made_by n t (journal H c)) q ≡ true
 line_about H c t n own w q kept is other inner hands due = by (handed (aim_of (work H n)) (made_by n t (journal H c))) refl hands
   where

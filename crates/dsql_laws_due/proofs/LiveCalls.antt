@@ -36,7 +36,7 @@ use Rattle.dsql_laws_calls.proofs.laws.Tests.{both, other_number, same_number}
 use Rattle.dsql_laws_calls.specs.history.declared.event.Event.{Event}
 use Rattle.dsql_laws_calls.specs.history.declared.event.Event.TheVariants.{Heard, Pool}
 use Rattle.dsql_laws_calls.specs.history.declared.work.Scope.{Scope}
-use Rattle.dsql_laws_calls.specs.history.declared.work.Scope.TheVariants.{Db, Held as In, Pinned, Within}
+use Rattle.dsql_laws_calls.specs.history.declared.work.Scope.TheVariants.{Db, Held as In}
 use Rattle.dsql_laws_calls.specs.history.declared.work.Work.{Work}
 use Rattle.dsql_laws_calls.specs.history.declared.work.Task.TheVariants.{HandOut}
 use Rattle.dsql_laws_calls.specs.history.declared.work.Work.TheVariants.{Statement, Fetch}
@@ -69,9 +69,6 @@ use Rattle.dsql_laws_due.proofs.KeptHeard.{new_rows}
 use Rattle.dsql_laws_due.proofs.LiveLines.{live_before, live_not_over, next_live, quiet_rows}
 use Rattle.dsql_laws_due.proofs.OpenLines.{open_plain, over_rows}
 use Rattle.dsql_laws_due.proofs.Owned.{heard_owner}
-use Rattle.dsql_laws_calls.proofs.DueWay.{call_no_pin}
-use Rattle.dsql_laws_due.proofs.Pins.{pinned_borrows, pinned_none}
-use Rattle.dsql_laws_replies.specs.OnPins.{on_pin}
 
 -- Holds if the rows aren't over there, and the tenure isn't at its end.
 pub record IsGoing (L : List Entry) : Type 0 where
@@ -204,18 +201,6 @@ module _ (H : List Event) (e : Entry) (l : Lawful (Heard e ∷ H)) (own : Owner)
       let none = d.1 in
       absurd cc
 
-  never : (b : Bool) → b ≡ true → b ≡ false → ⊥
-  never b x y = cc
-
-  -- No call on a pin sends there.
-  pin_none : {A : Type 0} → (e.call_no == 0) ≡ false → on_pin (scope (work H e.call_no)) ≡ true → A
-  pin_none some on =
-      let s = sound H l.0 in
-      let u = s.coming e may in
-      let same = same_lent u.owner own (sym u.lent ∙ lent) in
-      pinned_none H e.conn e.tenure own e.call_no l.0 lent (call_no_pin own call)
-      (pinned_borrows H e.call_no on ∙ (u.borrowed (λ none. never (e.call_no == 0) (ap (λ j. j == 0) none) some) ∙ ap number_of same))
-
   inner_none : {A : Type 0} (k : ℕ) → (e.call_no == 0) ≡ false → scope (work H e.call_no) ≡ In k → A
   inner_none k some inner =
       let s = sound H l.0 in
@@ -224,6 +209,9 @@ module _ (H : List Event) (e : Entry) (l : Lawful (Heard e ∷ H)) (own : Owner)
       let number : k ≡ number_of own = sym (inside_uses H e.call_no k inner) ∙ (u.borrowed (λ none. never (e.call_no == 0) (ap (λ j. j == 0) none) some) ∙ ap number_of same) in
       let i = inside H l.0 in
       call_unbegun H e.conn e.tenure own l.0 lent call (i.coming e (number_of own) may (inner ∙ ap In number))
+    where
+      never : (b : Bool) → b ≡ true → b ≡ false → ⊥
+      never b x y = cc
 
   other_going : is_some (rows_by H (number_of own)) ≡ true → IsGoing (heard_in H e.conn e.tenure) → CallWay H e.conn e.tenure own e.call_no e.call → IsGoing (e ∷ heard_in H e.conn e.tenure)
   other_going some going w = by w.kind
@@ -248,8 +236,6 @@ module _ (H : List Event) (e : Entry) (l : Lawful (Heard e ∷ H)) (own : Owner)
       scoped : (sc : Scope) → scope (work H e.call_no) ≡ sc → (e.call_no == 0) ≡ false → asks (work H e.call_no) ≡ false → IsGoing (e ∷ heard_in H e.conn e.tenure)
       scoped Db its numbered a = another a its
       scoped (In k) its numbered a = inner_none k numbered its
-      scoped (Pinned p) its numbered a = pin_none numbered (ap on_pin its)
-      scoped (Within p k) its numbered a = pin_none numbered (ap on_pin its)
 
       asking : (b : Bool) → asks (work H e.call_no) ≡ b → (e.call_no == 0) ≡ false → IsGoing (e ∷ heard_in H e.conn e.tenure)
       asking true a numbered = own_none some going (own_way H e l.0 may numbered a)

@@ -17,7 +17,7 @@ use Rattle.dsql_laws_calls.specs.course.Made.{Exchange, ends_rows, given_cursor,
 use Rattle.dsql_laws_calls.specs.course.Rows.{closing_of}
 use Rattle.dsql_laws_calls.specs.journal.declared.entry.Entry.{Entry}
 use Rattle.dsql_laws_calls.specs.journal.declared.entry.Owner.{Owner}
-use Rattle.dsql_laws_calls.specs.journal.Kinds.{number_of}
+use Rattle.dsql_laws_calls.specs.journal.Kinds.{is_call, number_of}
 use Rattle.dsql_laws_calls.specs.journal.Readers.{went_bad}
 use Rattle.dsql_laws_calls.specs.pool.declared.conn.Place.TheVariants.{Lent}
 use Rattle.dsql_laws_calls.specs.pool.declared.moves.Move.TheVariants.{Lend}
@@ -61,7 +61,7 @@ use Rattle.dsql_laws_calls.proofs.Looks.{heard_there}
 use Rattle.dsql_laws_calls.proofs.Rows.{ended_live, none_at_end}
 use Rattle.dsql_laws_calls.proofs.Sound.{fitting}
 use Rattle.dsql_laws_calls.proofs.UnderWay.{clash}
-use Rattle.dsql_laws_calls.proofs.Scopes.{held_there}
+use Rattle.dsql_laws_calls.proofs.Why.{scoped}
 use Rattle.dsql_laws_due.proofs.Came.{came, Came}
 use Rattle.dsql_laws_due.proofs.Holds.{EndsWay, Holds, Kept, RowsWay, TestsWay}
 use Rattle.dsql_laws_due.proofs.Kept.{holds, rows_else}
@@ -69,7 +69,6 @@ use Rattle.dsql_laws_due.proofs.KeptHeard.{begin_step, ending_stepless, heard_no
 use Rattle.dsql_laws_due.proofs.LineFacts.{body_due, line_facts, LineOf}
 use Rattle.dsql_laws_due.proofs.OpenLines.{cursor_run, is_run, open_inner, over_rows, run_open}
 use Rattle.dsql_laws_due.proofs.Owned.{of_transaction}
-use Rattle.dsql_laws_due.proofs.Pins.{is_tx}
 
 -- If rows were made before an event and are live after it, they were live before it.
 
@@ -133,7 +132,7 @@ some_of : (o : Option ℕ) → is_some o ≡ true → (r : ℕ) × (o ≡ Some r
 some_of None h = absurd cc
 some_of (Some r) h = (r, refl)
 
-module _ (H : List Event) (e : Entry) (l : Lawful (Heard e ∷ H)) (own : Owner) (lent : place H e.conn ≡ Some (Lent e.tenure own)) (other : is_tx own ≡ true) (n : ℕ) (hands : hands_out_in (number_of own) (work H n) ≡ true)
+module _ (H : List Event) (e : Entry) (l : Lawful (Heard e ∷ H)) (own : Owner) (lent : place H e.conn ≡ Some (Lent e.tenure own)) (other : is_call own ≡ false) (n : ℕ) (hands : hands_out_in (number_of own) (work H n) ≡ true)
     (after : are_live (Heard e ∷ H) n ≡ true) where
   abbrev made : List Exchange
   made = made_by n e.tenure (journal H e.conn)
@@ -148,7 +147,7 @@ module _ (H : List Event) (e : Entry) (l : Lawful (Heard e ∷ H)) (own : Owner)
   may = let there = heard_there H e l.1 in subst (λ at. sends_from H at e ≡ true) lent there.line
 
   inner : scope (work H n) ≡ Held (number_of own)
-  inner = held_there H e.conn e.tenure own n l.0 lent hands
+  inner = scoped (work H n) (number_of own) hands
 
   tenure : IsOfTransaction (number_of own) e.tenure (journal H e.conn)
   tenure = of_transaction H e.conn e.tenure own l.0 lent other
@@ -217,7 +216,7 @@ module _ (H : List Event) (e : Entry) (l : Lawful (Heard e ∷ H)) (own : Owner)
           absurd cc
 
       from : RowsWay H e.conn e.tenure own e.call_no e.call ⊎ (EndsWay H e.conn e.tenure e.call ⊎ TestsWay H e.conn e.tenure e.call) → rows_are_over (with_exchange (step_of e.call) e.answer made) ≡ false
-      from (inl r) = fetches r (sender x r.n r.wish (held_there H e.conn e.tenure own r.n l.0 lent r.hands) which had r.due) which r.kind
+      from (inl r) = fetches r (sender x r.n r.wish (scoped (work H r.n) (number_of own) r.hands) which had r.due) which r.kind
       from (inr (inl y)) = stepless (ending_stepless e.call y.ends) which
       from (inr (inr y)) = stepless (ap step_of y.tests) which
 
@@ -257,7 +256,7 @@ module _ (H : List Event) (e : Entry) (l : Lawful (Heard e ∷ H)) (own : Owner)
 
 -- The event is an answer.
 
-answered_open : (H : List Event) (e : Entry) → Lawful (Heard e ∷ H) → (own : Owner) → place H e.conn ≡ Some (Lent e.tenure own) → is_tx own ≡ true → Open H e.conn e.tenure own → Open (Heard e ∷ H) e.conn e.tenure own
+answered_open : (H : List Event) (e : Entry) → Lawful (Heard e ∷ H) → (own : Owner) → place H e.conn ≡ Some (Lent e.tenure own) → is_call own ≡ false → Open H e.conn e.tenure own → Open (Heard e ∷ H) e.conn e.tenure own
 answered_open H e l own lent other open_rows n hands after =
     ap (λ L. rows_are_over (exchanges (line_among n L))) now ∙ by (new_rows H (work H e.call_no) e.call_no e.call e.answer n (handed_out H) (live_some (rows_by (Heard e ∷ H) n) after))
   where
@@ -267,7 +266,7 @@ answered_open H e l own lent other open_rows n hands after =
     order : is_in_order (exchanges (line_among n (e ∷ heard_in H e.conn e.tenure))) ≡ true
     order =
         let h = holds (Heard e ∷ H) l in
-        let line = line_facts (Heard e ∷ H) e.conn e.tenure n own h.kept lent other (held_there H e.conn e.tenure own n l.0 lent hands) in
+        let line = line_facts (Heard e ∷ H) e.conn e.tenure n own h.kept lent other (scoped (work H n) (number_of own) hands) in
         sym (ap (λ L. is_in_order (exchanges (line_among n L))) now) ∙ line.order
 
     run : (d : Due) → step_of e.call ≡ Some d → is_run d ≡ true → line_among n (e ∷ heard_in H e.conn e.tenure) ≡ e ∷ line_among n (heard_in H e.conn e.tenure)
@@ -289,7 +288,7 @@ answered_open H e l own lent other open_rows n hands after =
         let d = due_of (step_of e.call) g.2 in
         run d.0 d.1 (cursor_run e.call e.answer d.0 (fits_heard H e l.1) g.1 d.1) (grows_own n e (heard_in H e.conn e.tenure) (ap (λ j. j == n) (sym g.0) ∙ same_itself n))
 
-pub live_open : (H : List Event) (c t : ℕ) (own : Owner) → Lawful H → place H c ≡ Some (Lent t own) → is_tx own ≡ true → (n : ℕ) → hands_out_in (number_of own) (work H n) ≡ true → are_live H n ≡ true
+pub live_open : (H : List Event) (c t : ℕ) (own : Owner) → Lawful H → place H c ≡ Some (Lent t own) → is_call own ≡ false → (n : ℕ) → hands_out_in (number_of own) (work H n) ≡ true → are_live H n ≡ true
     → rows_are_over (made_by n t (journal H c)) ≡ false
 live_open [] c t own l is other n hands lives = absurd cc
 live_open (e ∷ H) c t own l is other n hands lives = by (λ before. live_open H c t own l.0 before other) (lent_before H e c t own l.0 is)

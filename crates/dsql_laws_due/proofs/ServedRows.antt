@@ -42,10 +42,10 @@ use Rattle.dsql_laws_calls.proofs.Coming.{sound}
 use Rattle.dsql_laws_calls.proofs.Ends.{zero_work}
 use Rattle.dsql_laws_calls.proofs.Lent.{lent_before}
 use Rattle.dsql_laws_calls.proofs.Looks.{comes, heard_there}
-use Rattle.dsql_laws_calls.proofs.Makers.{hands_out, rows_hand_out}
+use Rattle.dsql_laws_calls.proofs.Makers.{hands_out, rows_begin_nothing, rows_hand_out}
 use Rattle.dsql_laws_calls.proofs.Own.{own_way, OwnWay}
-use Rattle.dsql_laws_calls.proofs.Owners.{lent_number, owner_is_of}
-use Rattle.dsql_laws_calls.proofs.Plain.{line_plain}
+use Rattle.dsql_laws_calls.proofs.Owners.{lent_number}
+use Rattle.dsql_laws_calls.proofs.Plain.{begins, line_plain}
 use Rattle.dsql_laws_calls.proofs.RowsNew.{content, held, were_made}
 use Rattle.dsql_laws_calls.proofs.Stays.{work_stays}
 use Rattle.dsql_laws_calls.proofs.UnderWay.{clash}
@@ -55,7 +55,7 @@ use Rattle.dsql_laws_calls.proofs.Wanted.{lent_wants_none}
 use Rattle.dsql_laws_due.proofs.FetchReplies.{handed_from, some_cursor}
 use Rattle.dsql_laws_due.proofs.KeptHeard.{new_rows}
 use Rattle.dsql_laws_due.proofs.LiveCalls.{own_conn}
-use Rattle.dsql_laws_due.proofs.Pins.{rows_owner}
+use Rattle.dsql_laws_due.proofs.Ways.{owner_begins}
 
 pub never : (b : Bool) → b ≡ true → b ≡ false → ⊥
 never b x y = cc
@@ -148,9 +148,11 @@ module _ (H : List Event) (e : Entry) (l : Lawful (Heard e ∷ H)) (numbered : (
 
   -- The call has its connection for itself.
   for_itself : is_call own.owner ≡ true
-  for_itself =
-      let o = owner_is_of H e.conn e.tenure own.owner l.0 own.lent in
-      ap is_call o.1 ∙ rows_owner (work H (number_of own.owner)) (number_of own.owner) (ap (λ j. hands_out (work H j)) own.own ∙ rows_hand_out (Heard e ∷ H) e.call_no made)
+  for_itself = by (is_call own.owner) refl
+    where
+      by : (b : Bool) → is_call own.owner ≡ b → b ≡ true
+      by true is = refl
+      by false is = clash (sym (owner_begins H e.conn e.tenure own.owner l.0 own.lent is) ∙ (ap (λ j. begins (work H j)) own.own ∙ rows_begin_nothing (Heard e ∷ H) e.call_no made))
 
   served_there : was_served (tries H e.call_no) ≡ true
   served_there = subst (λ j. was_served (tries H j) ≡ true) own.own (lent_served H e.conn e.tenure own.owner l.0 own.lent (none_bad H e own.owner l.0 may own.lent for_itself))

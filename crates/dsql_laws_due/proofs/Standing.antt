@@ -21,11 +21,11 @@ use Rattle.dsql_laws_tenures.specs.Connections.{IsAlone}
 use Rattle.dsql_laws_tenures.proofs.TenureStanding.{Rests, Leaves, Works, rests_opened, leaves_idle, leaves_lent, leaves_alone}
 use Rattle.dsql_laws_calls.proofs.Spared.{was_heard, was_opened, moves, unpressed}
 
--- Holds if the connection is lent to this owner in tenure t. A transaction or a pin has the connection alone.
+-- Holds if the connection is lent to this owner in tenure t. A transaction has the connection alone.
 abbrev pub LentTo : ℕ → ℕ → ℕ → Owner → List Entry → Type 0
 LentTo c l t (Call n) J = Works c l t n J
-LentTo c l t House J = ⊥
-LentTo c l t owner J = (t ≡ l + 1) × IsAlone c t J
+LentTo c l t (Tx k) J = (t ≡ l + 1) × IsAlone c t J
+LentTo c l t owner J = ⊥
 
 -- Holds if what was heard on connection c fits its place. Here `l` is how often the connection was lent, `u`
 -- how often to an owner other than the house, and `J` its journal. `heard` says whether the last event is an
@@ -104,7 +104,7 @@ rests_back c l u h o J _ s from opened lent = absurd cc
 left_by : (c l t : ℕ) (owner : Owner) (J : List Entry) → LentTo c l t owner J → is_whole_tenure t J ≡ true → Leaves c l J
 left_by c l t (Call n) J s whole = leaves_lent c l t n J s whole
 left_by c l t (Tx k) J s whole = leaves_alone c l t J s.1 s.0 whole
-left_by c l t (Pin n) J s whole = leaves_alone c l t J s.1 s.0 whole
+left_by c l t (Pin n) J s whole = absurd s
 left_by c l t House J s whole = absurd s
 
 -- A connection whose closing begins can leave.

@@ -37,7 +37,7 @@ use Rattle.dsql_laws_calls.specs.history.Readers.Owed.{owed}
 use Rattle.dsql_laws_calls.specs.history.Readers.Pool.{pool, place, uses, wanted_by}
 use Rattle.dsql_laws_calls.specs.history.Readers.Works.{owner_as, work}
 use Rattle.dsql_laws_calls.specs.history.Rules.Journals.{leaves_whole}
-use Rattle.dsql_laws_calls.specs.history.Rules.Line.{is_due, is_used, leaves_from, uses_pin}
+use Rattle.dsql_laws_calls.specs.history.Rules.Line.{is_due, is_used, leaves_from}
 use Rattle.dsql_laws_calls.specs.history.Rules.Moves.{hears_in, is_house_entry}
 use Rattle.dsql_laws_calls.specs.history.Rules.Order.{follows}
 use Rattle.dsql_laws_calls.specs.history.Rules.Sent.{asked_by, is_reset_due}
@@ -61,10 +61,9 @@ use Rattle.dsql_laws_calls.proofs.Tenures.{there_any, there_from}
 use Rattle.dsql_laws_calls.proofs.UnderWay.{UnderWay}
 use Rattle.dsql_laws_calls.proofs.Unspoilt.{Fine, fine, there_lent}
 use Rattle.dsql_laws_due.proofs.CallRows.{finished}
-use Rattle.dsql_laws_due.proofs.Owned.{heard_owner, of_pin, of_transaction}
+use Rattle.dsql_laws_due.proofs.Owned.{heard_owner, of_transaction}
 use Rattle.dsql_laws_due.proofs.Standing as standing
 use Rattle.dsql_laws_due.proofs.Standing.{LentTo, Stands, StandsIn, lends, stands_found, untouched, let_be, rests_from, rests_back, lent_to, opening_opens}
-use Rattle.dsql_laws_due.proofs.Pins.{rests_unpinned}
 
 follows_of : (H : List Event) (e : Event) → Allowed H e → follows (owed H) e ≡ true
 follows_of H e a = let k = keeps_of H e a in k.order
@@ -97,11 +96,15 @@ stands_open H c n l a s d =
     (record { unlent = refl; unused = refl; fresh = λ h. refl; done = λ h. absurd cc }))
     (λ apart. stands_beside H (OpenStart c n) d (conn_of d (begun (wanted_by H n) (pool H)).conns) a s refl (begun_off d (wanted_by H n) (pool H) apart))
 
--- A connection at rest can be lent to a call, to a transaction or to a pin.
+-- A connection at rest can be lent to a call or to a transaction.
 lent_first : (c l t : ℕ) (J : List Entry) (owner : Owner) (w : Work) → owner ≡ owner_as w (number_of owner) → Rests c l J → t ≡ l + 2 → LentTo c (l + 1) t owner J
 lent_first c l t J (Call n) w is rests tenure = works_first c l t n J rests tenure
 lent_first c l t J (Tx k) w is rests tenure = (omega (arith, tenure), alone_first c t J rests.quiet (omega (arith, rests.below, tenure)))
-lent_first c l t J (Pin n) w is rests tenure = (omega (arith, tenure), alone_first c t J rests.quiet (omega (arith, rests.below, tenure)))
+lent_first c l t J (Pin n) w is rests tenure = absurd (by w is)
+  where
+    by : (v : Work) → Pin n ≡ owner_as v n → ⊥
+    by (works_of.Begin label level read_only) h = cc
+    by v h = cc
 lent_first c l t J House w is rests tenure = absurd (by w is)
   where
     by : (v : Work) → House ≡ owner_as v 0 → ⊥
@@ -141,9 +144,8 @@ close_whole H c why a = a.journals
 
 unused : (H : List Event) (c t : ℕ) (own : Owner) → place H c ≡ Some (Lent t own) → leaves_from H (place H c) ≡ true → is_used H (number_of own) ≡ false
 unused H c t own is h =
-    let a = both (not (is_house own)) (not (is_used H (number_of own)) && not (uses_pin H own)) (ap (leaves_from H) (sym is) ∙ h) in
-    let b = both (not (is_used H (number_of own))) (not (uses_pin H own)) a.1 in
-    not_true (is_used H (number_of own)) b.0
+    let a = both (not (is_house own)) (not (is_used H (number_of own))) (ap (leaves_from H) (sym is) ∙ h) in
+    not_true (is_used H (number_of own)) a.1
 
 rests_lent : (H : List Event) (c t : ℕ) (own : Owner) → Lawful (Pool (Back c) ∷ H) → place H c ≡ Some (Lent t own) → LentTo c (lends H c) t own (journal H c) → Rests c (lends H c) (journal H c)
 rests_lent H c t (Call n) l is works =
@@ -155,9 +157,7 @@ rests_lent H c t (Call n) l is works =
 rests_lent H c t (Tx k) l is alone =
     let good = unspoilt H c t (Tx k) l is in
     rests_ended c (lends H c) k t (journal H c) alone.1 alone.0 (of_transaction H c t (Tx k) l.0 is refl) (ap (leaves_whole H c) (sym is) ∙ back_whole H c l.1) good.0 good.1
-rests_lent H c t (Pin n) l is alone =
-    let good = unspoilt H c t (Pin n) l is in
-    rests_unpinned c (lends H c) t (journal H c) alone.1 alone.0 (of_pin H c t (Pin n) l.0 is refl) (ap (leaves_whole H c) (sym is) ∙ back_whole H c l.1) good.0 good.1
+rests_lent H c t (Pin n) l is none = absurd none
 rests_lent H c t House l is none = absurd none
 
 stands_back : (H : List Event) (c : ℕ) → Lawful (Pool (Back c) ∷ H) → ((d : ℕ) → StandsIn H d) → (d : ℕ) → StandsIn (Pool (Back c) ∷ H) d
@@ -226,8 +226,7 @@ lent_heard H e t (Call n) l is works =
     line_to u same = let x = u.line (ap is_call same) in (x.0, subst (λ o. is_due (call_line H e.conn e.tenure o x.0) e.call ≡ true) same x.1)
 lent_heard H e t (Tx k) l is alone =
     (alone.0, alone_on e.conn t (journal H e.conn) e alone.1 (heard_follows H e l.1) (heard_tenure H e t (Tx k) l.1 is) (ap is_house (same_owner_is e.owner (Tx k) (heard_owner H e t (Tx k) l.1 is))))
-lent_heard H e t (Pin n) l is alone =
-    (alone.0, alone_on e.conn t (journal H e.conn) e alone.1 (heard_follows H e l.1) (heard_tenure H e t (Pin n) l.1 is) (ap is_house (same_owner_is e.owner (Pin n) (heard_owner H e t (Pin n) l.1 is))))
+lent_heard H e t (Pin n) l is none = absurd none
 lent_heard H e t House l is none = absurd none
 
 heard_there : (H : List Event) (e : Entry) → Lawful (Heard e ∷ H) → ((d : ℕ) → StandsIn H d) → (p : Option Place) → place H e.conn ≡ p → Stands e.conn (lends H e.conn) (uses H e.conn) true (is_done e.answer) (e ∷ journal H e.conn) p

@@ -8,10 +8,10 @@ use Rattle.dsql_laws_calls.specs.driver.Fits.{is_done}
 use Rattle.dsql_laws_calls.specs.driver.Kinds.{is_begin}
 use Rattle.dsql_laws_calls.specs.journal.declared.entry.Entry.{Entry}
 use Rattle.dsql_laws_calls.specs.journal.declared.entry.Owner.{Owner}
-use Rattle.dsql_laws_calls.specs.journal.declared.entry.Owner.TheVariants.{Tx}
+use Rattle.dsql_laws_calls.specs.journal.declared.entry.Owner.TheVariants.{Call, Tx, Pin, House}
 use Rattle.dsql_laws_calls.specs.journal.Facts.{MayFollow}
 use Rattle.dsql_laws_calls.specs.journal.Journal.{IsJournalPrefix, is_journal_prefix, may_follow}
-use Rattle.dsql_laws_calls.specs.journal.Kinds.{number_of}
+use Rattle.dsql_laws_calls.specs.journal.Kinds.{is_call, number_of}
 use Rattle.dsql_laws_calls.specs.journal.Readers.{begins, is_empty, last_tenure, of_tenure, of_transaction}
 use Rattle.dsql_laws_calls.proofs.journal.Conjunctions.{if_so, parts2, parts3}
 use Rattle.dsql_laws_calls.proofs.journal.Sentences.{MayFollow-of}
@@ -49,15 +49,16 @@ use Rattle.dsql_laws_due.proofs.Owned.{of_transaction as tenure_of}
 use Rattle.dsql_laws_due.proofs.Standing.{LentTo, lends, lent_to}
 use Rattle.dsql_laws_due.proofs.Stood.{stands}
 use Rattle.dsql_laws_due.proofs.Ways.{owner_begins}
-use Rattle.dsql_laws_due.proofs.Pins.{is_tx}
 
 -- The transaction's tenure has the connection alone.
-pub alone_of : (H : List Event) (c t : ℕ) (own : Owner) → Lawful H → place H c ≡ Some (Lent t own) → is_tx own ≡ true → IsAlone c t (journal H c)
+pub alone_of : (H : List Event) (c t : ℕ) (own : Owner) → Lawful H → place H c ≡ Some (Lent t own) → is_call own ≡ false → IsAlone c t (journal H c)
 alone_of H c t own l is other = by own (lent_to H c t own (stands H l c) is) other
   where
-    by : (o : Owner) → LentTo c (lends H c) t o (journal H c) → is_tx o ≡ true → IsAlone c t (journal H c)
+    by : (o : Owner) → LentTo c (lends H c) t o (journal H c) → is_call o ≡ false → IsAlone c t (journal H c)
+    by (Call n) s h = absurd cc
     by (Tx k) s h = s.1
-    by o s h = absurd cc
+    by (Pin n) s h = absurd s
+    by House s h = absurd s
 
 -- If the Begin of a call was done, the history records that the call has begun its transaction.
 
@@ -112,7 +113,7 @@ begin_is (Begin label level read_only) h = refl
 begin_is w h = absurd cc
 
 -- The tenure before the Begin is done.
-pub lent_to_tx : (H : List Event) (c t : ℕ) (own : Owner) → Lawful H → place H c ≡ Some (Lent t own) → is_tx own ≡ true → is_begun H (number_of own) ≡ false
+pub lent_to_tx : (H : List Event) (c t : ℕ) (own : Owner) → Lawful H → place H c ≡ Some (Lent t own) → is_call own ≡ false → is_begun H (number_of own) ≡ false
     → IsLentTo (caps H) (is_reset_due H c) (begin_of (work H (number_of own))) c (number_of own) t (journal H c)
 lent_to_tx H c t own l is other unbegun = record {
   begins = begin_is (work H (number_of own)) begin;
@@ -181,7 +182,7 @@ under_way t J beginning rising some = by (nat_lt (last_tenure J) t) refl
         clash (sym some ∙ ap (list_any begins) (of_tenure-new t J beginning less))
     by false is = grind (arith, nat_tests, is, rising)
 
-pub goes_on_tx : (H : List Event) (c t : ℕ) (own : Owner) → Lawful H → place H c ≡ Some (Lent t own) → is_tx own ≡ true → is_begun H (number_of own) ≡ true → ended_there (heard_in H c t) ≡ false → GoesOn c (number_of own) t (journal H c)
+pub goes_on_tx : (H : List Event) (c t : ℕ) (own : Owner) → Lawful H → place H c ≡ Some (Lent t own) → is_call own ≡ false → is_begun H (number_of own) ≡ true → ended_there (heard_in H c t) ≡ false → GoesOn c (number_of own) t (journal H c)
 goes_on_tx H c t own l is other begun none =
     let alone = alone_of H c t own l is other in
     let journal_open = alone.is_open in
@@ -198,7 +199,7 @@ goes_on_tx H c t own l is other begun none =
       not_shut = journal_open.not_shut;
     }
 
-pub has_ended_tx : (H : List Event) (c t : ℕ) (own : Owner) (q : DriverCall) → Lawful H → place H c ≡ Some (Lent t own) → is_tx own ≡ true → is_begun H (number_of own) ≡ true → TestsWay H c t q → HasEnded c (number_of own) t (journal H c)
+pub has_ended_tx : (H : List Event) (c t : ℕ) (own : Owner) (q : DriverCall) → Lawful H → place H c ≡ Some (Lent t own) → is_call own ≡ false → is_begun H (number_of own) ≡ true → TestsWay H c t q → HasEnded c (number_of own) t (journal H c)
 has_ended_tx H c t own q l is other begun w =
     let alone = alone_of H c t own l is other in
     let journal_open = alone.is_open in

@@ -11,7 +11,7 @@ use Rattle.dsql_laws_calls.specs.course.Made.{Exchange, or_else, own_cursor}
 use Rattle.dsql_laws_calls.specs.course.Made as courses_made
 use Rattle.dsql_laws_calls.specs.journal.declared.entry.Entry.{Entry}
 use Rattle.dsql_laws_calls.specs.journal.declared.entry.Owner.{Owner}
-use Rattle.dsql_laws_calls.specs.journal.Kinds.{is_pin, number_of}
+use Rattle.dsql_laws_calls.specs.journal.Kinds.{is_call, number_of}
 use Rattle.dsql_laws_calls.specs.journal.Readers.{went_bad, of_tenure}
 use Rattle.dsql_laws_calls.specs.pool.declared.conn.Place.TheVariants.{Lent}
 use Rattle.dsql_laws_calls.specs.tx.declared.end.TxEnd.{TxEnd}
@@ -21,12 +21,13 @@ use Rattle.dsql_laws_calls.specs.works.Line.{handed, test_of, body_after}
 use Rattle.dsql_laws_calls.proofs.laws_work.Rows.{not_true}
 use Rattle.dsql_laws_calls.specs.history.Readers.HandedOut.{over, rows_by, are_live, are_over, ender}
 use Rattle.dsql_laws_calls.specs.history.Rules.Wishes.{wish_as}
-use Rattle.dsql_laws_calls.proofs.laws.Tests.{both, same_itself}
+use Rattle.dsql_laws_calls.proofs.laws.Tests.{both, same_number, same_itself}
 use Rattle.dsql_laws_calls.specs.history.declared.event.Event.{Event}
-use Rattle.dsql_laws_calls.specs.history.declared.work.Scope.TheVariants.{Db, Held, Pinned, Within}
+use Rattle.dsql_laws_calls.specs.history.declared.work.Scope.{Scope}
+use Rattle.dsql_laws_calls.specs.history.declared.work.Scope.TheVariants.{Db, Held}
 use Rattle.dsql_laws_calls.specs.history.declared.work.Work.{Work}
-use Rattle.dsql_laws_calls.specs.history.declared.work.Task.TheVariants.{HandOut}
-use Rattle.dsql_laws_calls.specs.history.declared.work.Work.TheVariants.{Statement, Begin, End, EndWithin, Unpin, Fetch, Close, Look}
+use Rattle.dsql_laws_calls.specs.history.declared.work.Task.TheVariants.{Execute, ReadOne, HandOut}
+use Rattle.dsql_laws_calls.specs.history.declared.work.Work.TheVariants.{Statement, Begin, End, Ping, Fetch, Close, Look}
 use Rattle.dsql_laws_calls.specs.history.Readers.Course.{caps}
 use Rattle.dsql_laws_calls.specs.history.Readers.Unfinished.{is_unfinished}
 use Rattle.dsql_laws_calls.specs.history.Readers.Works.{works, work, scope, asks, borrower, hands_out_in, is_in, is_fetch, aim_of, owner_as}
@@ -37,12 +38,12 @@ use Rattle.dsql_laws_calls.specs.history.Readers.Transactions.{tx_end, is_begun,
 use Rattle.dsql_laws_calls.specs.history.Readers.Calls.{decided, site}
 use Rattle.dsql_laws_calls.specs.history.Rules.Sent.{asked_by, inner_after, untested, line_of, closes, wish, sent_for, close_due}
 use Rattle.dsql_laws_calls.specs.history.Rules.Ending.{first_closing, ended_by_call, end_after, ending_at, ending_with, ending}
-use Rattle.dsql_laws_calls.specs.history.Rules.Line.{due_in, due_for, tidying, tidying_for, is_due, is_due_at}
+use Rattle.dsql_laws_calls.specs.history.Rules.Line.{due_in, due_for, tidying, is_due, is_due_at}
 use Rattle.dsql_laws_calls.specs.history.Legal.{Lawful}
 use Rattle.dsql_laws_tenures.specs.Tenures.{made_by}
-use Rattle.dsql_laws_calls.proofs.Owners.{at_home, lent_asks, owner_is_of}
-use Rattle.dsql_laws_calls.proofs.Plain.{begins, starts}
-use Rattle.dsql_laws_calls.proofs.Makers.{hands_out, rows_hand_out, sent_made, rows_start_nothing}
+use Rattle.dsql_laws_calls.proofs.Owners.{at_home, owner_is_of}
+use Rattle.dsql_laws_calls.proofs.Plain.{begins}
+use Rattle.dsql_laws_calls.proofs.Makers.{hands_out, rows_hand_out, sent_made, rows_begin_nothing}
 use Rattle.dsql_laws_calls.proofs.Begun.{over_begun}
 use Rattle.dsql_laws_calls.proofs.Lines.{line_there, line_here}
 use Rattle.dsql_laws_calls.proofs.Own.{some_due, DueNow, due_now, due_of}
@@ -50,7 +51,7 @@ use Rattle.dsql_laws_calls.proofs.Inside.{inside_uses, live_goes}
 use Rattle.dsql_laws_calls.proofs.Quiet.{Quiet, quiet_sends_none}
 use Rattle.dsql_laws_calls.proofs.LineParts.{hands_of, known_bad, unsent_line, unsent_in}
 use Rattle.dsql_laws_calls.proofs.HandedRows.{handed_made, rows_begun}
-use Rattle.dsql_laws_calls.proofs.Why.{ended_there, first_some}
+use Rattle.dsql_laws_calls.proofs.Why.{ended_there, first_some, scoped}
 use Rattle.dsql_laws_calls.proofs.UnderWay.{line_made, handed_there, Newest, Going, Facts, clash, at_number, line_at_its, turn_of}
 use Rattle.dsql_laws_calls.proofs.DueWay.{borrow_same, inner_is}
 use Rattle.dsql_laws_calls.proofs.InnerLines.{no_cursor}
@@ -59,17 +60,18 @@ use Rattle.dsql_laws_due.proofs.OnRows.{closed_over, fetch_of}
 use Rattle.dsql_laws_due.proofs.LineTails.{no_handle}
 use Rattle.dsql_laws_due.proofs.LineEnds.{IsShut, line_shut, unhanded_wish, ungiven_shut}
 use Rattle.dsql_laws_due.proofs.Holds.{asked_in, AllShut, Kept, RowsWay, EndsWay, TestsWay, TxWay, IsOther}
-use Rattle.dsql_laws_calls.proofs.Scopes.{held_there}
-use Rattle.dsql_laws_due.proofs.Pins.{begins_starts, in_scope, is_tx, off_pin, pinned_borrows, pinned_none, tidying_here, tx_no_call, tx_no_pin}
-use Rattle.dsql_laws_replies.specs.OnPins.{on_pin}
 
--- A transaction is the owner of a call that begins it.
-pub owner_begins : (H : List Event) (c t : ℕ) (own : Owner) → Lawful H → place H c ≡ Some (Lent t own) → is_tx own ≡ true → begins (work H (number_of own)) ≡ true
-owner_begins H c t own l is other = let o = owner_is_of H c t own l is in by (work H (number_of own)) (sym (ap is_tx o.1) ∙ other)
+-- An owner that isn't a call is that of a call that begins a transaction.
+pub owner_begins : (H : List Event) (c t : ℕ) (own : Owner) → Lawful H → place H c ≡ Some (Lent t own) → is_call own ≡ false → begins (work H (number_of own)) ≡ true
+owner_begins H c t own l is other = let o = owner_is_of H c t own l is in by (work H (number_of own)) (sym (ap is_call o.1) ∙ other)
   where
-    by : (w : Work) → is_tx (owner_as w (number_of own)) ≡ true → begins w ≡ true
+    by : (w : Work) → is_call (owner_as w (number_of own)) ≡ false → begins w ≡ true
     by (Begin label level read_only) h = refl
     by _ h = absurd cc
+
+in_scope : (s : Scope) (k : ℕ) → is_in k s ≡ true → s ≡ Held k
+in_scope (Held n) k h = ap Held (same_number n k h)
+in_scope Db k h = absurd cc
 
 -- The rows of a transaction that is over are over.
 rows_over : (H : List Event) (n k : ℕ) → Lawful H → hands_out_in k (work H n) ≡ true → is_over H k ≡ true → is_some (rows_by H n) ≡ true → are_over H n ≡ true
@@ -84,7 +86,7 @@ rows_over H n k l hands gone some = by (are_live H n) refl
 
 -- If a Commit or a Rollback is due, nothing is open, unless the connection is known to be bad.
 
-module _ (H : List Event) (e : Entry) (t : ℕ) (own : Owner) (l : Lawful H) (f : Facts H) (kept : Kept H) (d : DueNow H e) (same : d.owner ≡ own) (other : is_tx own ≡ true)
+module _ (H : List Event) (e : Entry) (t : ℕ) (own : Owner) (l : Lawful H) (f : Facts H) (kept : Kept H) (d : DueNow H e) (same : d.owner ≡ own) (other : is_call own ≡ false)
     (elsewhere : (n : ℕ) → scope (work H n) ≡ Held (number_of own) → n ≢ e.call_no) (gone : is_over H (number_of own) ≡ true) (closed : first_closing H (number_of own) 0 (works H) ≡ None)
     (good : went_bad (journal H e.conn) ≡ false) where
   lent : place H e.conn ≡ Some (Lent e.tenure own)
@@ -118,7 +120,7 @@ module _ (H : List Event) (e : Entry) (t : ℕ) (own : Owner) (l : Lawful H) (f 
       let dead = rows_over H n (number_of own) l in_it gone some in
       let none : is_some (close_due H n) ≡ false = unclosed (is_some (close_due H n)) refl in_it in
       unsent n inner
-      (sym (ap (λ o. is_some o) (inner_is H e.conn e.tenure own n wishes.Close (number_of own) (tx_no_call own other) inner))
+      (sym (ap (λ o. is_some o) (inner_is H e.conn e.tenure own n wishes.Close (number_of own) other inner))
       ∙ (sym (ap (λ o. is_some o) (line_here H e.conn e.tenure own n wishes.Close l lent (inside_uses H n (number_of own) inner)))
       ∙ (sym (ap (λ b. is_some (cond b (line_of H n wishes.Close) None)) dead) ∙ none)))
     where
@@ -156,7 +158,7 @@ module _ (H : List Event) (e : Entry) (t : ℕ) (own : Owner) (l : Lawful H) (f 
       by false h =
           unsent n inner
           (ap (λ o. is_some o) (unhanded_wish (untested (caps H)) (went_bad (journal H e.conn)) (asked_by H n) wishes.Close wishes.Nothing (made n) (none_of (handed (aim_of (work H n)) (made n)) h))
-          ∙ (sym (ap (λ o. is_some o) (inner_is H e.conn e.tenure own n wishes.Nothing (number_of own) (tx_no_call own other) inner)) ∙ silent))
+          ∙ (sym (ap (λ o. is_some o) (inner_is H e.conn e.tenure own n wishes.Nothing (number_of own) other inner)) ∙ silent))
 
   sent_shut : (n : ℕ) → scope (work H n) ≡ Held (number_of own) → has_sent n (journal H e.conn) ≡ true → IsShut (made n)
   sent_shut n inner sent = by (is_unfinished H n) refl
@@ -184,7 +186,7 @@ module _ (H : List Event) (e : Entry) (t : ℕ) (own : Owner) (l : Lawful H) (f 
           (record { cursor = no_cursor [] refl; handle = no_handle [] refl })
 
       by : (b : Bool) → is_in (number_of own) (scope (work H n)) ≡ b → IsShut (made n)
-      by true is = inside (has_sent n (journal H e.conn)) refl (in_scope H n (number_of own) (lent_asks H e.conn e.tenure own l lent) is)
+      by true is = inside (has_sent n (journal H e.conn)) refl (in_scope (scope (work H n)) (number_of own) is)
       by false is = let keeps = kept.lines e.conn e.tenure own lent other in ungiven_shut (made n) (keeps.others n (ap (λ b. cond b (Some (asked_by H n)) None) is))
 
 -- What is due to end a transaction.
@@ -232,13 +234,13 @@ rows_way H c t own m n q l is hands due = by (are_over H n) refl due
       hands = hands;
       rows = over_some (rows_by H n) over;
       wish = wishes.Close;
-      due = ap (λ o. is_due o q) (sym (line_here H c t own n wishes.Close l is (inside_uses H n (number_of own) (held_there H c t own n l is hands)))) ∙ x;
+      due = ap (λ o. is_due o q) (sym (line_here H c t own n wishes.Close l is (inside_uses H n (number_of own) (scoped (work H n) (number_of own) hands)))) ∙ x;
       left = inr refl;
       kind = inl (refl, over);
     }
     by false over x = absurd cc
 
-ending_way : (H : List Event) (e : Entry) (own : Owner) → Lawful H → Facts H → Kept H → (d : DueNow H e) → d.owner ≡ own → is_tx own ≡ true → ((n : ℕ) → scope (work H n) ≡ Held (number_of own) → n ≢ e.call_no)
+ending_way : (H : List Event) (e : Entry) (own : Owner) → Lawful H → Facts H → Kept H → (d : DueNow H e) → d.owner ≡ own → is_call own ≡ false → ((n : ℕ) → scope (work H n) ≡ Held (number_of own) → n ≢ e.call_no)
     → is_due (ending H (number_of own)) e.call ≡ true → TxWay H e.conn e.tenure own e.call_no e.call
 ending_way H e own l f kept d same other elsewhere due = by (tx_end H (number_of own)) refl due
   where
@@ -284,19 +286,19 @@ ending_way H e own l f kept d same other elsewhere due = by (tx_end H (number_of
         record { begun = over_begun H (number_of own) gone; way = parts end (first_closing H (number_of own) 0 (works H)) gone refl (here end x) }
 
 -- What the layer sends.
-layer_way : (H : List Event) (e : Entry) (own : Owner) → Lawful H → Facts H → Kept H → (d : DueNow H e) → d.owner ≡ own → is_tx own ≡ true → ((n : ℕ) → scope (work H n) ≡ Held (number_of own) → n ≢ e.call_no)
+layer_way : (H : List Event) (e : Entry) (own : Owner) → Lawful H → Facts H → Kept H → (d : DueNow H e) → d.owner ≡ own → is_call own ≡ false → ((n : ℕ) → scope (work H n) ≡ Held (number_of own) → n ≢ e.call_no)
     → is_due (tidying H (number_of own)) e.call ≡ true → TxWay H e.conn e.tenure own e.call_no e.call
 layer_way H e own l f kept d same other elsewhere due = by (is_begun H (number_of own)) due
   where
-    begin : starts (work H (number_of own)) ≡ true
-    begin = begins_starts (work H (number_of own)) (owner_begins H e.conn e.tenure own l (subst (λ o. place H e.conn ≡ Some (Lent e.tenure o)) same d.lent) other)
+    begin : begins (work H (number_of own)) ≡ true
+    begin = owner_begins H e.conn e.tenure own l (subst (λ o. place H e.conn ≡ Some (Lent e.tenure o)) same d.lent) other
 
     ended : (b : Bool) → is_due (cond b (ending H (number_of own)) None) e.call ≡ true → TxWay H e.conn e.tenure own e.call_no e.call
     ended true x = ending_way H e own l f kept d same other elsewhere x
     ended false x = absurd cc
 
     over_rows : (b : Bool) → are_over H (number_of own) ≡ b → is_due (cond b (line_of H (number_of own) wishes.Close) None) e.call ≡ true → TxWay H e.conn e.tenure own e.call_no e.call
-    over_rows true gone x = clash (sym begin ∙ rows_start_nothing H (number_of own) (over_some (rows_by H (number_of own)) gone))
+    over_rows true gone x = clash (sym begin ∙ rows_begin_nothing H (number_of own) (over_some (rows_by H (number_of own)) gone))
     over_rows false gone x = absurd cc
 
     closed : (b : Bool) → is_due (cond b (close_due H (number_of own)) None) e.call ≡ true → TxWay H e.conn e.tenure own e.call_no e.call
@@ -309,7 +311,7 @@ layer_way H e own l f kept d same other elsewhere due = by (is_begun H (number_o
 
 -- A call over rows.
 
-over_way : (H : List Event) (e : Entry) (own : Owner) (j : ℕ) → Lawful H → Facts H → (d : DueNow H e) → d.owner ≡ own → is_tx own ≡ true → (e.call_no == 0) ≡ false → (work H e.call_no ≡ Fetch j) ⊎ (work H e.call_no ≡ Close j)
+over_way : (H : List Event) (e : Entry) (own : Owner) (j : ℕ) → Lawful H → Facts H → (d : DueNow H e) → d.owner ≡ own → is_call own ≡ false → (e.call_no == 0) ≡ false → (work H e.call_no ≡ Fetch j) ⊎ (work H e.call_no ≡ Close j)
     → is_due (sent_for H j (wish H e.call_no j)) e.call ≡ true → TxWay H e.conn e.tenure own e.call_no e.call
 over_way H e own j l f d same other some which due =
     by (closes H e.call_no j) (is_fetch (work H e.call_no) && (are_live H j && is_none (decided H e.call_no))) refl refl due
@@ -326,9 +328,6 @@ over_way H e own j l f d same other some which due =
     number_at : (w : Wish) → is_due (line_of H j w) e.call ≡ true → number_of own ≡ borrower H j
     number_at w x = line_at_its H j e.conn e.tenure own w e.call here lent_here x
 
-    none_on_pin : {A : Type 0} → number_of own ≡ borrower H j → on_pin (scope (work H j)) ≡ true → A
-    none_on_pin number on = pinned_none H e.conn e.tenure own j l lent_here (tx_no_pin own other) (pinned_borrows H j on ∙ sym number)
-
     -- The rows were made in the transaction.
     hands_in : number_of own ≡ borrower H j → hands_out_in (number_of own) (work H j) ≡ true
     hands_in number = of_work (work H j) refl (rows_hand_out H j rows)
@@ -339,8 +338,6 @@ over_way H e own j l f d same other some which due =
             let wrong : true ≡ false = sym (owner_begins H e.conn e.tenure own l lent_here other) ∙ (ap (λ i. begins (work H i)) itself ∙ ap begins its) in
             absurd cc
         of_work (Statement (Held k) (HandOut label)) its x = let number_k : number_of own ≡ k = number ∙ rw its refl in ap (λ i. hands_out_in i (work H j)) number_k ∙ (ap (hands_out_in k) its ∙ same_itself k)
-        of_work (Statement (Pinned p) (HandOut label)) its x = none_on_pin number (ap (λ v. on_pin (scope v)) its)
-        of_work (Statement (Within p k) (HandOut label)) its x = none_on_pin number (ap (λ v. on_pin (scope v)) its)
         of_work v its x = absurd cc
 
     wanted : (w : Wish) → is_due (line_of H j w) e.call ≡ true → (hands_out_in (number_of own) (work H j) ≡ true → (ended_there (heard_in H e.conn e.tenure) ≡ false) ⊎ (w ≡ wishes.Close))
@@ -371,11 +368,11 @@ over_way H e own j l f d same other some which due =
         (λ hands.
         let goes = live_goes H j (number_of own) l z.0 hands in
         let b = both (is_begun H (number_of own)) (not (is_over H (number_of own))) goes in
-        inl (f.ends e.conn e.tenure own lent_here (tx_no_pin own other) (not_true (is_over H (number_of own)) b.1)))
+        inl (f.ends e.conn e.tenure own lent_here (not_true (is_over H (number_of own)) b.1)))
         (inr (refl, fetch_of j (work H e.call_no) which y.0))
     by false false ends fetches x = absurd cc
 
-pub due_tx_way : (H : List Event) (e : Entry) (own : Owner) → Lawful H → Facts H → Kept H → is_due_at H (place H e.conn) e ≡ true → place H e.conn ≡ Some (Lent e.tenure own) → is_tx own ≡ true → IsOther H e.call_no
+pub due_tx_way : (H : List Event) (e : Entry) (own : Owner) → Lawful H → Facts H → Kept H → is_due_at H (place H e.conn) e ≡ true → place H e.conn ≡ Some (Lent e.tenure own) → is_call own ≡ false → IsOther H e.call_no
     → TxWay H e.conn e.tenure own e.call_no e.call
 due_tx_way H e own l f kept h is other its = whose (e.call_no == 0) refl (due_now H e h)
   where
@@ -397,17 +394,22 @@ due_tx_way H e own l f kept h is other its = whose (e.call_no == 0) refl (due_no
             let number = at_number H k e.conn e.tenure own (some_due (ending H k) e.call y) at is in
             ending_way H e own l f kept d same other elsewhere (ap (λ i. is_due (ending H i) e.call) number ∙ y)
         by_ender false y = absurd cc
-    work_of d same some (EndWithin p k) is_work a s x = off_pin H e l d (ap is_pin same ∙ tx_no_pin own other) some (rw is_work refl)
-    work_of d same some (Unpin p) is_work a s x = off_pin H e l d (ap is_pin same ∙ tx_no_pin own other) some (rw is_work refl)
-    work_of d same some w is_work a s x = absurd cc
+    work_of d same some Look is_work a s x = absurd cc
+    work_of d same some (Statement Db Execute) is_work a s x = absurd cc
+    work_of d same some (Statement (Held k) Execute) is_work a s x = absurd cc
+    work_of d same some (Statement Db (ReadOne dests)) is_work a s x = absurd cc
+    work_of d same some (Statement (Held k) (ReadOne dests)) is_work a s x = absurd cc
+    work_of d same some (Statement Db (HandOut label)) is_work a s x = absurd cc
+    work_of d same some (Statement (Held k) (HandOut label)) is_work a s x = absurd cc
+    work_of d same some (Begin label level read_only) is_work a s x = absurd cc
+    work_of d same some Ping is_work a s x = absurd cc
 
     whose : (b : Bool) → (e.call_no == 0) ≡ b → DueNow H e → TxWay H e.conn e.tenure own e.call_no e.call
     whose true layer d =
         let same = same_lent d.owner own (sym d.lent ∙ is) in
-        let due : is_due (tidying_for H d.owner) e.call ≡ true = ap (λ b. is_due (cond b (tidying_for H d.owner) (due_for H e.call_no)) e.call) (sym layer) ∙ d.due in
-        let here = tidying_here H d.owner (ap is_pin same ∙ tx_no_pin own other) in
-        layer_way H e own l f kept d same other elsewhere (subst (λ o. is_due (tidying H (number_of o)) e.call ≡ true) same (ap (λ x. is_due x e.call) (sym here) ∙ due))
+        let due : is_due (tidying H (number_of d.owner)) e.call ≡ true = ap (λ b. is_due (cond b (tidying H (number_of d.owner)) (due_for H e.call_no)) e.call) (sym layer) ∙ d.due in
+        layer_way H e own l f kept d same other elsewhere (subst (λ o. is_due (tidying H (number_of o)) e.call ≡ true) same due)
     whose false some d =
         let same = same_lent d.owner own (sym d.lent ∙ is) in
-        let o = due_of H e.call_no e.call (ap (λ b. is_due (cond b (tidying_for H d.owner) (due_for H e.call_no)) e.call) (sym some) ∙ d.due) in
+        let o = due_of H e.call_no e.call (ap (λ b. is_due (cond b (tidying H (number_of d.owner)) (due_for H e.call_no)) e.call) (sym some) ∙ d.due) in
         work_of d same some (work H e.call_no) refl its.asks_none its.outside o.due

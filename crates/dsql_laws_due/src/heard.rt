@@ -9,7 +9,7 @@ ghost use Rattle.dsql_laws_calls.specs.journal.declared.entry.Owner.{Owner};
 ghost use Rattle.dsql_laws_calls.specs.journal.Entries.{shut_entry};
 ghost use Rattle.dsql_laws_calls.specs.journal.HandlesAndCursors.{fits_at_its_place};
 ghost use Rattle.dsql_laws_calls.specs.journal.Journal.{may_follow};
-ghost use Rattle.dsql_laws_calls.specs.journal.Kinds.{is_pin, number_of};
+ghost use Rattle.dsql_laws_calls.specs.journal.Kinds.{number_of};
 ghost use Rattle.dsql_laws_calls.specs.journal.Tenure.{is_whole_tenure};
 ghost use Rattle.dsql_laws_calls.specs.pool.declared.conn.Place.TheVariants.{Closing, Lent};
 ghost use Rattle.dsql_laws_calls.specs.pool.Pooled.{next_tenure};
@@ -18,20 +18,20 @@ ghost use Rattle.dsql_laws_calls.specs.history.Readers.Journals.{journal};
 ghost use Rattle.dsql_laws_calls.specs.history.Readers.Owed.{owed};
 ghost use Rattle.dsql_laws_calls.specs.history.Readers.Pool.{place, pool};
 ghost use Rattle.dsql_laws_calls.specs.history.Rules.Causes.{goes_in_turn};
-ghost use Rattle.dsql_laws_calls.specs.history.Rules.Line.{is_used, may_come, uses_pin};
+ghost use Rattle.dsql_laws_calls.specs.history.Rules.Line.{is_used, may_come};
 ghost use Rattle.dsql_laws_calls.specs.history.Legal.{Lawful};
 ghost use Rattle.dsql_laws_calls.specs.laws.Leaving.{MayLeave};
 ghost use Rattle.dsql_laws_due.specs.Carried.{carried};
 
 /// If a driver call is under way, its entry may follow in the journal, whatever the driver answers. This holds
 /// in a tenure of a call or of a transaction, whichever call sent it. The entry has to carry the transaction to
-/// which it belongs, and the answer has to fit at its place. Tenures of pins are left out.
+/// which it belongs, and the answer has to fit at its place.
 ///
 /// On a connection that is being closed, a Shut may follow if the pool owes no move. Any answer that fits may
 /// come, except want of memory.
 pub fn every_answer_may_follow()
     ensures due { (history : List Event) (e : Entry) → Lawful history → may_come history e ≡ true → place history e.conn
-        ≡ Some (Lent e.tenure e.owner) → is_pin e.owner ≡ false → e.tx ≡ carried e.owner e.call e.answer
+        ≡ Some (Lent e.tenure e.owner) → e.tx ≡ carried e.owner e.call e.answer
         → fits_at_its_place (journal history e.conn) e ≡ true → may_follow (journal history e.conn) e ≡ true }
     ensures shut { (history : List Event) (c : ℕ) (answer : DriverAnswer) → Lawful history → owed history ≡ []
         → place history c ≡ Some Closing → fits_of Shut answer ≡ true → is_memory answer ≡ false
@@ -39,15 +39,12 @@ pub fn every_answer_may_follow()
 {}
 
 /// A lent connection that isn't in use has a whole tenure, whether it is lent to a call or to a transaction. So
-/// it may be given back as the rules ask, if the pool owes no move and it is the connection's turn. So may the
-/// connection of a pin that no longer uses it, if its tenure is whole.
+/// it may be given back as the rules ask, if the pool owes no move and it is the connection's turn.
 pub fn what_is_not_used_may_be_given_back()
     ensures whole { (history : List Event) (c t : ℕ) (owner : Owner) → Lawful history
         → place history c ≡ Some (Lent t owner)
-        → is_pin owner ≡ false
         → is_used history (number_of owner) ≡ false → is_whole_tenure t (journal history c) ≡ true }
     ensures leaves { (history : List Event) (c t : ℕ) (owner : Owner) → Lawful history → owed history ≡ []
         → place history c ≡ Some (Lent t owner) → goes_in_turn history (place history c) ≡ true
-        → is_used history (number_of owner) ≡ false → uses_pin history owner ≡ false
-        → (is_pin owner ≡ true → is_whole_tenure t (journal history c) ≡ true) → MayLeave history c }
+        → is_used history (number_of owner) ≡ false → MayLeave history c }
 {}

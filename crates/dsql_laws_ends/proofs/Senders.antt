@@ -42,7 +42,7 @@ use Rattle.dsql_laws_calls.proofs.EndedRows.{ender_over, rows_kept}
 use Rattle.dsql_laws_calls.proofs.Lent.{lent_before, Lends}
 use Rattle.dsql_laws_calls.proofs.LiveRows.{live_some, over_not_live, over_some}
 use Rattle.dsql_laws_calls.proofs.Looks.{comes, heard_there}
-use Rattle.dsql_laws_calls.proofs.Makers.{rows_start_nothing}
+use Rattle.dsql_laws_calls.proofs.Makers.{rows_begin_nothing}
 use Rattle.dsql_laws_calls.proofs.Own.{due_line}
 use Rattle.dsql_laws_calls.proofs.Owners.{lent_asks, lent_number}
 use Rattle.dsql_laws_calls.proofs.Plain.{begins}
@@ -162,7 +162,7 @@ pub begun_dead : (H : List Event) (n : ℕ) → Lawful H → is_begun H n ≡ tr
 begun_dead H n l begun = by (are_live H n) refl
   where
     by : (b : Bool) → are_live H n ≡ b → b ≡ false
-    by true lives = absurd (true_false (begins (work H n)) (begun_begins H n l begun) (rows_start_nothing H n (live_some (rows_by H n) lives)))
+    by true lives = absurd (true_false (begins (work H n)) (begun_begins H n l begun) (rows_begin_nothing H n (live_some (rows_by H n) lives)))
     by false dead = refl
 
 -- When the call that ended the transaction replies, it has ended it at the driver.

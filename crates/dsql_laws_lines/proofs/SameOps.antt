@@ -52,7 +52,7 @@ dests_itself (a ∷ more) = rw (same_itself (rank a)) (dests_itself more)
 
 target_itself : (target : Target) → same_target target target ≡ true
 target_itself targets.Db = refl
-target_itself (targets.Label label) = bytes_itself label
+target_itself (targets.Label tx) = bytes_itself tx
 
 -- A text with its arguments and its target is the same as itself.
 text_itself : (target : Target) (text : List ℕ) (args : List Named) → (same_target target target && (bytes_eq text text && same_args args args)) ≡ true
@@ -69,12 +69,8 @@ op_itself (ops.Next rows) = bytes_itself rows
 op_itself (ops.Scan rows dests) = together (bytes_eq rows rows) (same_dests dests dests) (bytes_itself rows) (dests_itself dests)
 op_itself (ops.RowsClose rows) = bytes_itself rows
 op_itself (ops.Err rows) = bytes_itself rows
-op_itself (ops.Begin label target level read_only) =
-    together (bytes_eq label label) _ (bytes_itself label)
-    (together (same_target target target) _ (target_itself target) (together (same_level level level) (same_truth read_only read_only) (level_itself level) (truth_itself read_only)))
+op_itself (ops.Begin label level read_only) =
+    together (bytes_eq label label) _ (bytes_itself label) (together (same_level level level) (same_truth read_only read_only) (level_itself level) (truth_itself read_only))
 op_itself (ops.Commit tx) = bytes_itself tx
 op_itself (ops.Rollback tx) = bytes_itself tx
-op_itself (ops.Conn label) = bytes_itself label
-op_itself (ops.ConnClose pin) = bytes_itself pin
-op_itself (ops.Ping target) = target_itself target
 op_itself _ = refl

@@ -9,7 +9,6 @@ use Rattle.dsql_laws_calls.specs.course.declared.course.Wish.{Wish}
 use Rattle.dsql_laws_calls.specs.course.declared.course.Wish.TheVariants as wishes
 use Rattle.dsql_laws_calls.specs.course.Made.{or_else}
 use Rattle.dsql_laws_calls.specs.journal.declared.entry.Entry.{Entry}
-use Rattle.dsql_laws_calls.specs.journal.declared.entry.Owner.{Owner}
 use Rattle.dsql_laws_calls.specs.journal.Kinds.{number_of}
 use Rattle.dsql_laws_calls.specs.journal.Readers.{of_tenure, went_bad}
 use Rattle.dsql_laws_calls.specs.pool.declared.conn.Conn.{Conn}
@@ -28,9 +27,9 @@ use Rattle.dsql_laws_calls.specs.history.declared.event.Event.TheVariants.{Repli
 use Rattle.dsql_laws_calls.specs.history.declared.reply.Reply.{Reply}
 use Rattle.dsql_laws_calls.specs.history.declared.record.CallRecord.{CallRecord}
 use Rattle.dsql_laws_calls.specs.history.declared.work.Scope.{Scope}
-use Rattle.dsql_laws_calls.specs.history.declared.work.Scope.TheVariants.{Db, Held, Pinned, Within}
+use Rattle.dsql_laws_calls.specs.history.declared.work.Scope.TheVariants.{Db, Held}
 use Rattle.dsql_laws_calls.specs.history.declared.work.Work.{Work}
-use Rattle.dsql_laws_calls.specs.history.declared.work.Work.TheVariants.{Statement, Begin, BeginOn, End, EndWithin, Pin, Unpin, Ping, PingOn, Fetch, Close, Look}
+use Rattle.dsql_laws_calls.specs.history.declared.work.Work.TheVariants.{Statement, Begin, End, Ping, Fetch, Close, Look}
 use Rattle.dsql_laws_calls.specs.history.Readers.Course.{caps}
 use Rattle.dsql_laws_calls.specs.history.Readers.Journals.{journal, heard_in}
 use Rattle.dsql_laws_calls.specs.history.Readers.Lines.{line_in}
@@ -38,13 +37,12 @@ use Rattle.dsql_laws_calls.specs.history.Readers.Calls.{calls, call_record, nobo
 use Rattle.dsql_laws_calls.specs.history.Readers.Transactions.{tx_by, end_of, tx_end, is_begun, is_over, goes_on, ending_call, tx_ender}
 use Rattle.dsql_laws_calls.specs.history.Readers.Pool.{pool, place, home}
 use Rattle.dsql_laws_calls.specs.history.Readers.Unfinished.{is_unfinished}
-use Rattle.dsql_laws_calls.specs.history.Readers.Works.{works, work, aim_of, scope, asks_in, is_fetch, hands_out_in, borrower, borrower_in}
+use Rattle.dsql_laws_calls.specs.history.Readers.Works.{works, work, aim_of, scope, is_fetch, hands_out_in, borrower}
 use Rattle.dsql_laws_calls.specs.history.Rules.Sent.{is_reset_due, asked_by, sender, line_with, line_at, line_of, closes, wish, sent_for, close_due}
-use Rattle.dsql_laws_calls.specs.history.Rules.Ending.{first_closing, ended_by_call, end_after, ending_at, ending_with, ending, ending_within}
-use Rattle.dsql_laws_calls.specs.history.Readers.Pins.{pin_goes_on, pin_ender}
-use Rattle.dsql_laws_calls.specs.history.Rules.Pinned.{unpinning}
-use Rattle.dsql_laws_calls.specs.history.Rules.Line.{sends_in, sends_on, due_inside, due_in, due_for, rest_with, is_used}
-use Rattle.dsql_laws_calls.specs.history.Rules.Settled.{is_in_use, is_kept, keeps_pin, uses_what_is_lent}
+use Rattle.dsql_laws_calls.specs.history.Rules.Ending.{first_closing, ended_by_call, end_after, ending_at, ending_with, ending}
+use Rattle.dsql_laws_calls.specs.history.Rules.Line.{sends_in, due_inside, due_in, due_for, rest_with, is_used}
+use Rattle.dsql_laws_calls.specs.history.Rules.Settled.{is_in_use, is_kept, uses_what_is_lent}
+use Rattle.dsql_laws_calls.proofs.Inside.{inside_uses}
 use Rattle.dsql_laws_calls.proofs.Begun.{stays_begun, stays_over}
 use Rattle.dsql_laws_calls.proofs.Lines.{same_sender}
 
@@ -64,10 +62,7 @@ pub record Alike (H K : List Event) (m : ℕ) : Type 0 where
   pub endings : (k : ℕ) → ending K k ≡ ending H k
   pub lines : (n : ℕ) (w : Wish) → Concerns H m n → line_of K n w ≡ line_of H n w
   pub sent : (has_begun_to_send K m ≡ has_begun_to_send H m) ⊎ ((n : ℕ) (w : Wish) → borrower H n ≡ borrower H m → line_of H n w ≡ None)
-  pub pinned : (p : ℕ) → scope (work H m) ≡ Pinned p → has_begun_to_send H m ≡ false → (pin_goes_on K p && is_none (decided K m)) ≡ (pin_goes_on H p && is_none (decided H m))
   pub decided : decided K m ≡ decided H m
-  pub within : (p k : ℕ) → work H m ≡ EndWithin p k → ending_within K p k ≡ ending_within H p k
-  pub unpins : (p : ℕ) → work H m ≡ Unpin p → cond (pin_ender K p == m) (unpinning K p) None ≡ cond (pin_ender H p == m) (unpinning H p) None
 
 sent_alike : (H K : List Event) (k : ℕ) (w : Wish) → ((v : Wish) → line_of K k v ≡ line_of H k v) → sent_for K k w ≡ sent_for H k w
 sent_alike H K k wishes.Nothing same = refl
@@ -94,23 +89,13 @@ closes_alike H K m k a its =
 in_time : (x late a b : Bool) → late ≡ false → (x && (not late || a)) ≡ (x && (not late || b))
 in_time x late a b is = rw is refl
 
--- Rows that are late belong to a call that asks for no connection of its own.
-pub late_scope : (H : List Event) (s : Scope) → is_late H s ≡ true → asks_in s ≡ false
+pub late_scope : (H : List Event) (s : Scope) → is_late H s ≡ true → (j : ℕ) × (s ≡ Held j)
 late_scope H Db h = absurd cc
-late_scope H s h = refl
+late_scope H (Held j) h = (j, refl)
 
-pub scope_uses : (H : List Event) (k : ℕ) → asks_in (scope (work H k)) ≡ false → borrower H k ≡ borrower_in (scope (work H k)) k
-scope_uses H k h = by (work H k) refl h
-  where
-    by : (w : Work) → work H k ≡ w → asks_in (scope w) ≡ false → borrower H k ≡ borrower_in (scope (work H k)) k
-    by (Statement s task) is x = rw is refl
-    by (BeginOn pin label level read_only) is x = rw is refl
-    by (PingOn pin) is x = rw is refl
-    by w is x = absurd cc
-
-rows_uses : (H : List Event) (m k : ℕ) → (work H m ≡ Fetch k) ⊎ (work H m ≡ Close k) → borrower H m ≡ borrower_in (scope (work H k)) k
-rows_uses H m k (inl is) = rw is refl
-rows_uses H m k (inr is) = rw is refl
+rows_uses : (H : List Event) (m k j : ℕ) → (work H m ≡ Fetch k) ⊎ (work H m ≡ Close k) → scope (work H k) ≡ Held j → borrower H m ≡ j
+rows_uses H m k j (inl is) s = rw (is, s) refl
+rows_uses H m k j (inr is) s = rw (is, s) refl
 
 over_alike : (H K : List Event) (m k : ℕ) → (work H m ≡ Fetch k) ⊎ (work H m ≡ Close k) → Alike H K m → sent_for K k (wish K m k) ≡ sent_for H k (wish H m k)
 over_alike H K m k its a = by a.sent (is_late H (scope (work H k))) refl
@@ -123,17 +108,19 @@ over_alike H K m k its a = by a.sent (is_late H (scope (work H k))) refl
     by (inl same) b is = with_wish (closes_alike H K m k a (inr its) ∙ ap (λ b. (ender H k == m) && (not (is_late H (scope (work H k))) || b)) same)
     by (inr none) false is = with_wish (closes_alike H K m k a (inr its) ∙ in_time (ender H k == m) (is_late H (scope (work H k))) (has_begun_to_send K m) (has_begun_to_send H m) is)
     by (inr none) true is =
-        let its_own : borrower H k ≡ borrower H m = scope_uses H k (late_scope H (scope (work H k)) is) ∙ sym (rows_uses H m k its) in
+        let s = late_scope H (scope (work H k)) is in
+        let its_own : borrower H k ≡ borrower H m = inside_uses H k s.0 s.1 ∙ sym (rows_uses H m k s.0 its s.1) in
         none_sent K k (wish K m k) (λ v. a.lines k v (inr its) ∙ none k v its_own) ∙ sym (none_sent H k (wish H m k) (λ v. none k v its_own))
 
 pub none_anyway : (b : Bool) (d : Option DriverCall) → d ≡ None → cond b d None ≡ None
 none_anyway true d h = h
 none_anyway false d h = refl
 
-held_alike : (H K : List Event) (m k : ℕ) → Alike H K m → cond (sends_in K m k) (line_of K m wishes.Nothing) None ≡ cond (sends_in H m k) (line_of H m wishes.Nothing) None
-held_alike H K m k a = by a.sent
+inside_alike : (H K : List Event) (m : ℕ) (s : Scope) → Alike H K m → due_inside K m s ≡ due_inside H m s
+inside_alike H K m Db a = a.lines m wishes.Nothing (inl refl)
+inside_alike H K m (Held k) a = by a.sent
   where
-    by : (has_begun_to_send K m ≡ has_begun_to_send H m) ⊎ ((n : ℕ) (w : Wish) → borrower H n ≡ borrower H m → line_of H n w ≡ None) → cond (sends_in K m k) (line_of K m wishes.Nothing) None ≡ cond (sends_in H m k) (line_of H m wishes.Nothing) None
+    by : (has_begun_to_send K m ≡ has_begun_to_send H m) ⊎ ((n : ℕ) (w : Wish) → borrower H n ≡ borrower H m → line_of H n w ≡ None) → due_inside K m (Held k) ≡ due_inside H m (Held k)
     by (inl same) =
         ap (λ b. cond (b || (goes_on K k && is_none (decided K m))) (line_of K m wishes.Nothing) None) same
         ∙ (ap (λ b. cond (has_begun_to_send H m || (b && is_none (decided K m))) (line_of K m wishes.Nothing) None) (a.going k)
@@ -143,39 +130,14 @@ held_alike H K m k a = by a.sent
         let here = none m wishes.Nothing refl in
         none_anyway (sends_in K m k) (line_of K m wishes.Nothing) (a.lines m wishes.Nothing (inl refl) ∙ here) ∙ sym (none_anyway (sends_in H m k) (line_of H m wishes.Nothing) here)
 
-pinned_alike : (H K : List Event) (m p : ℕ) → scope (work H m) ≡ Pinned p → Alike H K m → cond (sends_on K m p) (line_of K m wishes.Nothing) None ≡ cond (sends_on H m p) (line_of H m wishes.Nothing) None
-pinned_alike H K m p is a = by a.sent
-  where
-    either : (b : Bool) → has_begun_to_send H m ≡ b → cond (has_begun_to_send H m || (pin_goes_on K p && is_none (decided K m))) (line_of K m wishes.Nothing) None ≡ cond (sends_on H m p) (line_of K m wishes.Nothing) None
-    either true begun = ap (λ b. cond (b || (pin_goes_on K p && is_none (decided K m))) (line_of K m wishes.Nothing) None) begun ∙ sym (ap (λ b. cond (b || (pin_goes_on H p && is_none (decided H m))) (line_of K m wishes.Nothing) None) begun)
-    either false begun = ap (λ b. cond (has_begun_to_send H m || b) (line_of K m wishes.Nothing) None) (a.pinned p is begun)
-
-    by : (has_begun_to_send K m ≡ has_begun_to_send H m) ⊎ ((n : ℕ) (w : Wish) → borrower H n ≡ borrower H m → line_of H n w ≡ None) → cond (sends_on K m p) (line_of K m wishes.Nothing) None ≡ cond (sends_on H m p) (line_of H m wishes.Nothing) None
-    by (inl same) =
-        ap (λ b. cond (b || (pin_goes_on K p && is_none (decided K m))) (line_of K m wishes.Nothing) None) same
-        ∙ (either (has_begun_to_send H m) refl
-        ∙ ap (λ d. cond (sends_on H m p) d None) (a.lines m wishes.Nothing (inl refl)))
-    by (inr none) =
-        let here = none m wishes.Nothing refl in
-        none_anyway (sends_on K m p) (line_of K m wishes.Nothing) (a.lines m wishes.Nothing (inl refl) ∙ here) ∙ sym (none_anyway (sends_on H m p) (line_of H m wishes.Nothing) here)
-
-inside_alike : (H K : List Event) (m : ℕ) (s : Scope) → scope (work H m) ≡ s → Alike H K m → due_inside K m s ≡ due_inside H m s
-inside_alike H K m Db is a = a.lines m wishes.Nothing (inl refl)
-inside_alike H K m (Held k) is a = held_alike H K m k a
-inside_alike H K m (Within p k) is a = held_alike H K m k a
-inside_alike H K m (Pinned p) is a = pinned_alike H K m p is a
-
 in_alike : (H K : List Event) (m : ℕ) (w : Work) → work H m ≡ w → Alike H K m → due_in K m w ≡ due_in H m w
 in_alike H K m (Fetch k) is a = over_alike H K m k (inl is) a
 in_alike H K m (Close k) is a = over_alike H K m k (inr is) a
 in_alike H K m (End k) is a = ap (λ e. cond (e == m) (ending K k) None) (a.tx_enders k) ∙ ap (λ d. cond (tx_ender H k == m) d None) (a.endings k)
-in_alike H K m (EndWithin p k) is a = ap (λ e. cond (e == m) (ending_within K p k) None) (a.tx_enders k) ∙ ap (λ d. cond (tx_ender H k == m) d None) (a.within p k is)
-in_alike H K m (Unpin p) is a = a.unpins p is
 in_alike H K m Look is a = refl
-in_alike H K m (Statement s task) is a = inside_alike H K m s (ap scope is) a
-in_alike H K m (BeginOn p label level read_only) is a = inside_alike H K m (Pinned p) (ap scope is) a
-in_alike H K m (PingOn p) is a = inside_alike H K m (Pinned p) (ap scope is) a
-in_alike H K m w is a = inside_alike H K m Db (ap scope is) a
+in_alike H K m (Statement s task) is a = inside_alike H K m s a
+in_alike H K m (Begin label level read_only) is a = inside_alike H K m Db a
+in_alike H K m Ping is a = inside_alike H K m Db a
 
 pub due_alike : (H K : List Event) (m : ℕ) → Alike H K m → due_for K m ≡ due_for H m
 due_alike H K m a =
@@ -195,18 +157,18 @@ used_as H K n o p q r d e same rows ends rest = rw (same, rows, ends, rest) refl
 pub used_alike : (H K : List Event) (n : ℕ) → tx_by K n ≡ tx_by H n → rows_by K n ≡ rows_by H n → ending K n ≡ ending H n → ((w : Wish) → line_of K n w ≡ line_of H n w) → is_used K n ≡ is_used H n
 used_alike H K n txs rows ends same = used_as H K n (tx_by H n) (tx_by K n) (rows_by H n) (rows_by K n) (ending H n) (ending K n) txs rows ends (rest_alike H K n (rows_by H n) same)
 
-pub in_use_alike : (H K : List Event) (place : Place) → ((n : ℕ) → is_kept K n ≡ is_kept H n) → ((own : Owner) → keeps_pin K own ≡ keeps_pin H own) → is_in_use K place ≡ is_in_use H place
-in_use_alike H K (Lent t owner) same pins = ap (λ b. b || keeps_pin K owner) (same (number_of owner)) ∙ ap (λ b. is_kept H (number_of owner) || b) (pins owner)
-in_use_alike H K _ same pins = refl
+pub in_use_alike : (H K : List Event) (place : Place) → ((n : ℕ) → is_kept K n ≡ is_kept H n) → is_in_use K place ≡ is_in_use H place
+in_use_alike H K (Lent t owner) same = same (number_of owner)
+in_use_alike H K _ same = refl
 
 pub all_alike : (q r : Conn → Bool) (conns : List Conn) → ((x : Conn) → q x ≡ r x) → list_all q conns ≡ list_all r conns
 all_alike q r [] same = refl
 all_alike q r (x ∷ xs) same = ap (λ b. b && list_all q xs) (same x) ∙ ap (λ b. r x && b) (all_alike q r xs same)
 
-pub lent_alike : (H K : List Event) → (pool K).conns ≡ (pool H).conns → ((n : ℕ) → is_kept K n ≡ is_kept H n) → ((own : Owner) → keeps_pin K own ≡ keeps_pin H own) → uses_what_is_lent K ≡ uses_what_is_lent H
-lent_alike H K conns same pins =
+pub lent_alike : (H K : List Event) → (pool K).conns ≡ (pool H).conns → ((n : ℕ) → is_kept K n ≡ is_kept H n) → uses_what_is_lent K ≡ uses_what_is_lent H
+lent_alike H K conns same =
     ap (λ cs. list_all (λ conn. is_in_use K conn.place) cs) conns
-    ∙ all_alike (λ conn. is_in_use K conn.place) (λ conn. is_in_use H conn.place) (pool H).conns (λ x. in_use_alike H K x.place same pins)
+    ∙ all_alike (λ conn. is_in_use K conn.place) (λ conn. is_in_use H conn.place) (pool H).conns (λ x. in_use_alike H K x.place same)
 
 -- Two histories that are alike in everything on which a line on connection c depends.
 pub record SameLine (H K : List Event) (n c : ℕ) : Type 0 where

@@ -5,7 +5,7 @@ use Rattle.std.proofs.lemmas.Bool.{or_right}
 use Rattle.dsql_laws_calls.specs.course.Made.{or_else}
 use Rattle.dsql_laws_calls.specs.history.declared.record.Stand.{Stand}
 use Rattle.dsql_laws_calls.specs.history.declared.record.Stand.TheVariants as stands_at
-use Rattle.dsql_laws_calls.specs.history.Rules.Stands.{stands, opens, lingers_on, is_own_step, is_settled_for, has_to_reply, stand}
+use Rattle.dsql_laws_calls.specs.history.Rules.Stands.{stands, opens, is_own_step, is_settled_for, has_to_reply, stand}
 use Rattle.std.specs.List.{list_any}
 use Rattle.std.specs.Option.{option_map}
 use Rattle.dsql_laws_calls.specs.wait.Requests.{waits}
@@ -16,15 +16,13 @@ use Rattle.dsql_laws_calls.specs.history.declared.record.Try.TheVariants.{Refuse
 use Rattle.dsql_laws_calls.specs.history.declared.reply.DbEnd.{DbEnd}
 use Rattle.dsql_laws_calls.specs.history.declared.reply.DbEnd.TheVariants as ends
 use Rattle.dsql_laws_calls.specs.history.Readers.Pool.{smallest, pool}
-use Rattle.dsql_laws_calls.specs.history.Readers.Tries.{was_served, with_try, try_number, has_a_try, asks_again, tries, tries_again, newest_answer}
+use Rattle.dsql_laws_calls.specs.history.Readers.Tries.{with_try, try_number, has_a_try, asks_again, tries, tries_again, newest_answer}
 use Rattle.dsql_laws_calls.proofs.laws.Tests.{same_itself, other_number}
 use Rattle.dsql_laws_calls.proofs.laws.Counts.{gone_fewer}
 use Rattle.dsql_laws_calls.proofs.laws.Tried.{is_lent_out, lent_count, shut_fewer}
 use Rattle.dsql_laws_calls.proofs.laws.Places.{neither, none_opens}
 use Rattle.dsql_laws_calls.proofs.laws.Wanted.{wanted, wants_counts, homes_apart, none_wanted}
 use Rattle.dsql_laws_calls.specs.history.Readers.Works.{asks, work}
-use Rattle.dsql_laws_calls.specs.history.declared.work.Work.{Work}
-use Rattle.dsql_laws_calls.specs.history.declared.work.Work.TheVariants.{Unpin}
 use Rattle.dsql_laws_calls.specs.history.declared.event.Event.{Event}
 use Rattle.dsql_laws_calls.specs.history.declared.event.Event.TheVariants.{Entered, Pool, Ended}
 use Rattle.dsql_laws_calls.specs.history.declared.event.Op.TheVariants.{DbClose}
@@ -38,7 +36,6 @@ use Rattle.dsql_laws_calls.specs.history.Legal.{Lawful}
 use Rattle.dsql_laws_calls.proofs.laws.Holdings.{one_at_most}
 use Rattle.dsql_laws_calls.proofs.laws.Wanting.{wants_its_own, wanting_works}
 use Rattle.dsql_laws_calls.proofs.Works.{enters_next, old_work}
-use Rattle.dsql_laws_calls.proofs.Wanters.{left_unserved}
 use Rattle.dsql_laws_calls.proofs.Untried.{wants_has_try, fallen_wanted, fallen_unwanting}
 use Rattle.dsql_laws_calls.proofs.Refusals.{refusal_told}
 use Rattle.dsql_laws_calls.proofs.Closed.{opens_for_none}
@@ -50,18 +47,12 @@ use Rattle.dsql_laws_others.proofs.OwnSteps.{replies_apart, fallen_own}
 
 -- If a call neither waits nor sends and no connection is being opened for it, the remaining cases decide where
 -- it stands.
-pub rests_there : (w d : Bool) (o : Option ℕ) (c : ℕ) (x there : Option Stand) → w ≡ false → o ≡ None → d ≡ false → x ≡ None
-    → or_else (stands w stands_at.Waits) (or_else (opens o) (or_else (stands d (stands_at.Sends c)) (or_else x there))) ≡ there
-rests_there false false None c None there hw ho hd hx = refl
-rests_there true d o c x there hw ho hd hx = absurd cc
-rests_there false true o c x there hw ho hd hx = absurd cc
-rests_there false false (Some k) c x there hw ho hd hx = absurd cc
-rests_there false false None c (Some s) there hw ho hd hx = absurd cc
-
--- A call that asks for a connection of its own closes no pin.
-pub asks_no_close : (H : List Event) (c n : ℕ) (w : Work) → asks w ≡ true → lingers_on H c n w ≡ None
-asks_no_close H c n (Unpin p) h = absurd cc
-asks_no_close H c n w h = refl
+pub rests_there : (w d : Bool) (o : Option ℕ) (c : ℕ) (there : Option Stand) → w ≡ false → o ≡ None → d ≡ false
+    → or_else (stands w stands_at.Waits) (or_else (opens o) (or_else (stands d (stands_at.Sends c)) there)) ≡ there
+rests_there false false None c there hw ho hd = refl
+rests_there true d o c there hw ho hd = absurd cc
+rests_there false true o c there hw ho hd = absurd cc
+rests_there false false (Some k) c there hw ho hd = absurd cc
 
 pub replies_first : (r a : Bool) → r ≡ true → or_else (stands r stands_at.Replies) (stands a stands_at.Asks) ≡ Some stands_at.Replies
 replies_first true a h = refl
@@ -113,7 +104,7 @@ fallen_there H c n l some =
     let few = gone_fewer (is_lent_out n) c (pool H).conns in
     let none = wanting_unlent H n l.0 some now in
     let unlent : lent_count n (pool K) ≡ 0 = omega (arith, few, none) in
-    rests_there (waits n (pool K).waiting) (is_some (due_for K n)) (smallest (is_for n) (pool K)) (site K n) (lingers_on K (site K n) n (work K n)) (where_told K n) unwanting.0 (none_opens n (pool K) unwanting.1) (silent K n own unlent) (asks_no_close K (site K n) n (work K n) own)
+    rests_there (waits n (pool K).waiting) (is_some (due_for K n)) (smallest (is_for n) (pool K)) (site K n) (where_told K n) unwanting.0 (none_opens n (pool K) unwanting.1) (silent K n own unlent)
 
 pub fallen_somewhere : (H : List Event) (c n : ℕ) → Lawful (Pool (Fell c n) ∷ H) → n ≢ 0 → is_some (stand (Pool (Fell c n) ∷ H) n) ≡ true
 fallen_somewhere H c n l some = ap (λ s. is_some s) (fallen_there H c n l some) ∙ by (has_a_try (Refused (newest_answer H) ∷ tries H n)) refl
@@ -130,7 +121,7 @@ fallen_somewhere H c n l some = ap (λ s. is_some s) (fallen_there H c n l some)
         let now = fallen_wanted H c n l.1 some in
         let own = wanting_works H n l.0 some now in
         let told : told_by_others K n ≡ last_told (tries_again (work K n) (try_number (Refused (newest_answer H) ∷ tries H n))) (try_number (Refused (newest_answer H) ∷ tries H n)) (Refused (newest_answer H) ∷ tries H n) =
-        told_own K n (work K n) own (ap was_served newest) ∙ ap (told_by_tries K (work K n)) newest
+        told_own K n (work K n) own ∙ ap (told_by_tries K (work K n)) newest
         ∙ ap (λ b. cond b (db_refused K) (last_told (tries_again (work K n) (try_number (Refused (newest_answer H) ∷ tries H n))) (try_number (Refused (newest_answer H) ∷ tries H n)) (Refused (newest_answer H) ∷ tries H n))) last
         in
         ap (λ s. is_some s) (told_replies K n (fallen_own H c n l some) (wanting_undecided H n l.0 some now) (ap (λ o. is_some o) told ∙ refusal_told K (work K n) n (newest_answer H) (tries H n) l newest last))
@@ -150,8 +141,8 @@ shut_out_replies H client k n l some h =
     let few = shut_fewer n (pool H) in
     let none = wanting_unlent H n l.0 some now in
     let unlent : lent_count n (pool K) ≡ 0 = omega (arith, few, none) in
-    let told : told_by_others K n ≡ option_map DbClosed (db_end K) = told_own K n (work K n) own (left_unserved (tries H n) (wants_has_try H n l.0 some h)) ∙ ap (λ b. cond b (db_refused K) (last_told (tries_again (work K n) (try_number (tries K n))) (try_number (tries K n)) (tries K n))) (wants_has_try H n l.0 some h) in
-    rests_there (waits n (pool K).waiting) (is_some (due_for K n)) (smallest (is_for n) (pool K)) (site K n) (lingers_on K (site K n) n (work K n)) (where_told K n) refl (opens_for_none K n l refl) (silent K n own unlent) (asks_no_close K (site K n) n (work K n) own)
+    let told : told_by_others K n ≡ option_map DbClosed (db_end K) = told_own K n (work K n) own ∙ ap (λ b. cond b (db_refused K) (last_told (tries_again (work K n) (try_number (tries K n))) (try_number (tries K n)) (tries K n))) (wants_has_try H n l.0 some h) in
+    rests_there (waits n (pool K).waiting) (is_some (due_for K n)) (smallest (is_for n) (pool K)) (site K n) (where_told K n) refl (opens_for_none K n l refl) (silent K n own unlent)
     ∙ told_replies K n (other_number k n (λ same. apart (sym same))) (entered_undecided H client k DbClose n l some now (wants_undecided H n l.0 some h)) (ap (λ o. is_some o) told ∙ some_end (db_end H) ends.Close)
 
 pub left_waiting_replies : (H : List Event) (n : ℕ) → Lawful (Ended ∷ H) → n ≢ 0 → wants n (pool H) ≡ true → stand (Ended ∷ H) n ≡ Some stands_at.Replies
@@ -162,6 +153,6 @@ left_waiting_replies H n l some h =
     let few = shut_fewer n (pool H) in
     let none = wanting_unlent H n l.0 some now in
     let unlent : lent_count n (pool K) ≡ 0 = omega (arith, few, none) in
-    let told : told_by_others K n ≡ option_map DbClosed (db_end K) = told_own K n (work K n) own (left_unserved (tries H n) (wants_has_try H n l.0 some h)) ∙ ap (λ b. cond b (db_refused K) (last_told (tries_again (work K n) (try_number (tries K n))) (try_number (tries K n)) (tries K n))) (wants_has_try H n l.0 some h) in
-    rests_there (waits n (pool K).waiting) (is_some (due_for K n)) (smallest (is_for n) (pool K)) (site K n) (lingers_on K (site K n) n (work K n)) (where_told K n) refl (opens_for_none K n l refl) (silent K n own unlent) (asks_no_close K (site K n) n (work K n) own)
+    let told : told_by_others K n ≡ option_map DbClosed (db_end K) = told_own K n (work K n) own ∙ ap (λ b. cond b (db_refused K) (last_told (tries_again (work K n) (try_number (tries K n))) (try_number (tries K n)) (tries K n))) (wants_has_try H n l.0 some h) in
+    rests_there (waits n (pool K).waiting) (is_some (due_for K n)) (smallest (is_for n) (pool K)) (site K n) (where_told K n) refl (opens_for_none K n l refl) (silent K n own unlent)
     ∙ told_replies K n refl (wants_undecided H n l.0 some h) (ap (λ o. is_some o) told ∙ some_end (db_end H) ends.EndOfRun)

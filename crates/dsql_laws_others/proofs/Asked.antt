@@ -34,8 +34,6 @@ use Rattle.dsql_laws_calls.specs.laws.Asked.{with_asked}
 use Rattle.dsql_laws_calls.proofs.laws.Asker.{asker}
 use Rattle.dsql_laws_calls.proofs.laws.AskedAllowed.{asked_lawful}
 use Rattle.dsql_laws_calls.proofs.Nowhere.{others_settled, told_own}
-use Rattle.dsql_laws_calls.proofs.Wanters.{left_unserved}
-use Rattle.dsql_laws_others.specs.Beside.{PinsUsedAlike}
 use Rattle.dsql_laws_others.proofs.Openings.{silent, used_opens, goes_on_opens}
 use Rattle.dsql_laws_others.proofs.Untouched.{used_waits, goes_on_waits}
 use Rattle.dsql_laws_others.proofs.LentBeside.{all_used}
@@ -73,7 +71,7 @@ some_told H w ts left some = ap (λ b. is_some (cond b (option_map DbClosed (db_
 pub asks_an_open_one : (H : List Event) (n : ℕ) → may_ask H n ≡ true → (pool H).closed ≡ true → ⊥
 asks_an_open_one H n may closed =
     let it = asker H n may in
-    let told : is_some (told_by_others H n) ≡ true = ap (λ o. is_some o) (told_own H n (work H n) it.own (left_unserved (tries H n) it.try_left)) ∙ some_told H (work H n) (tries H n) it.try_left (closed_end H closed) in
+    let told : is_some (told_by_others H n) ≡ true = ap (λ o. is_some o) (told_own H n (work H n) it.own) ∙ some_told H (work H n) (tries H n) it.try_left (closed_end H closed) in
     let settled = others_settled (decided H n) (told_by_others H n) (told_at_lending H n) told in
     let none : is_some (reply_due H n) ≡ false = ap (λ o. is_some o) it.unsettled in
     never (is_some (reply_due H n)) settled none
@@ -118,15 +116,15 @@ asked_goes_on H n l none may settled few restless = by (ask_outcome H n) refl fe
     by (Err TooMany) is k r law = absurd cc
     by (Err Memory) is k r law = absurd (no_memory p.closed (takes_idle (request H n) p) (are_too_many p) (may_open p) lent (next_number p) is)
 
-pub asked_used : (H : List Event) (n : ℕ) → Lawful H → owed H ≡ [] → may_ask H n ≡ true → is_settled_but n H ≡ true → PinsUsedAlike H (with_asked n (ask_outcome H n) H) → uses_what_is_lent (with_asked n (ask_outcome H n) H) ≡ true
-asked_used H n l none may settled pins = by (ask_outcome H n) pins (asked_lawful H n l none may settled)
+pub asked_used : (H : List Event) (n : ℕ) → Lawful H → owed H ≡ [] → may_ask H n ≡ true → is_settled_but n H ≡ true → uses_what_is_lent (with_asked n (ask_outcome H n) H) ≡ true
+asked_used H n l none may settled = by (ask_outcome H n) (asked_lawful H n l none may settled)
   where
     h : uses_what_is_lent H ≡ true
     h = let a = both (owes_nothing H) (uses_what_is_lent H && calls_stand_but n H) settled in let b = both (uses_what_is_lent H) (calls_stand_but n H) a.1 in b.0
 
-    by : (a : Result Asked AskFault) → PinsUsedAlike H (with_asked n a H) → Lawful (with_asked n a H) → uses_what_is_lent (with_asked n a H) ≡ true
-    by (Ok (asked.Lent c t)) pins law = all_used H c t (owner_of H n) n law h
-    by (Ok (asked.Opening c)) pins law = used_opens H c n pins ∙ h
-    by (Ok asked.Queued) pins law = used_waits H n ∙ h
-    by (Ok asked.Closed) pins law = h
-    by (Err why) pins law = h
+    by : (a : Result Asked AskFault) → Lawful (with_asked n a H) → uses_what_is_lent (with_asked n a H) ≡ true
+    by (Ok (asked.Lent c t)) law = all_used H c t (owner_of H n) n law h
+    by (Ok (asked.Opening c)) law = used_opens H c n ∙ h
+    by (Ok asked.Queued) law = used_waits H n ∙ h
+    by (Ok asked.Closed) law = h
+    by (Err why) law = h

@@ -33,7 +33,7 @@ use Rattle.dsql_laws_calls.specs.history.Readers.Journals.{journal}
 use Rattle.dsql_laws_calls.specs.history.Readers.Lines.{has_sent}
 use Rattle.dsql_laws_calls.specs.history.Readers.Pool.{home}
 use Rattle.dsql_laws_calls.specs.history.Readers.Transactions.{ends_as, transactions, end_of, is_begun, is_over, goes_on}
-use Rattle.dsql_laws_calls.specs.history.Readers.Works.{works, work, asks, borrower, hands_out_in, is_in, rows_maker, scope, tx_maker}
+use Rattle.dsql_laws_calls.specs.history.Readers.Works.{works, work, borrower, hands_out_in, is_in, rows_maker, scope, tx_maker}
 use Rattle.dsql_laws_calls.specs.history.Legal.{Lawful}
 use Rattle.dsql_laws_callers.proofs.Heard.{heard_lent}
 use Rattle.dsql_laws_callers.proofs.KeptApart.{uses_its_own}
@@ -50,7 +50,6 @@ use Rattle.dsql_laws_calls.proofs.Own.{going_used}
 use Rattle.dsql_laws_calls.proofs.Owners.{at_home}
 use Rattle.dsql_laws_calls.proofs.Plain.{begins}
 use Rattle.dsql_laws_calls.proofs.RowsKept.{Borrows, tx_borrows}
-use Rattle.dsql_laws_calls.proofs.Scopes.{held_asks}
 use Rattle.dsql_laws_calls.proofs.Stays.{as_many, has_entered}
 use Rattle.dsql_laws_calls.proofs.Works.{enters_next, new_record, new_work, old_record, old_work, other_heard, other_replied}
 use Rattle.dsql_laws_calls.proofs.Works as works_of
@@ -67,9 +66,9 @@ record Stays (H : List Event) (e : Event) (k : ℕ) : Type 0 where
   at : Borrows H k
   there : home H k ≡ at.conn
 
-stays : (H : List Event) (e : Event) (k : ℕ) → Lawful (e ∷ H) → asks (work H k) ≡ true → goes_on H k ≡ true → Stays H e k
-stays H e k l own going =
-    let b = tx_borrows H k l.0 own going in
+stays : (H : List Event) (e : Event) (k : ℕ) → Lawful (e ∷ H) → goes_on H k ≡ true → Stays H e k
+stays H e k l going =
+    let b = tx_borrows H k l.0 going in
     let used = ap (λ i. goes_on H i) b.number ∙ going in
     let after = stays_lent H e b.conn b.tenure b.owner l.0 l.1 b.lent (going_used H (number_of b.owner) used) in
     let was : home H k ≡ b.conn = ap (home H) (sym b.number) ∙ at_home H b.conn b.tenure b.owner l.0 b.lent in
@@ -140,18 +139,18 @@ ending_now : (H : List Event) (tx : List ℕ) (by : TxEnd) (j k : ℕ) → Lawfu
     → is_some (end_of (thing_of k (ends_as H tx by (transactions H)))) ≡ false → ⊥
 ending_now H tx by j k l inner lives dead on = at (end_turn H tx j)
   where
-    held_there : (w : Work) (i : ℕ) → hands_out_in i w ≡ true → scope w ≡ Held k → k ≡ i
-    held_there (Statement (Held x) (HandOut label)) i h s = number s ∙ same_number x i h
+    scoped : (w : Work) (i : ℕ) → hands_out_in i w ≡ true → scope w ≡ Held k → k ≡ i
+    scoped (Statement (Held x) (HandOut label)) i h s = number s ∙ same_number x i h
       where
         number : Held x ≡ Held k → k ≡ x
         number y = cc
-    held_there w i h s = absurd cc
+    scoped w i h s = absurd cc
 
     at : (rows_of j (ended_with H tx (handed_out H)) ≡ rows_by H j) ⊎ (Turns (rows_by H j) (rows_of j (ended_with H tx (handed_out H))) × EndsNow H tx j) → ⊥
     at (inl same) = true_false (are_live H j) lives (sym (ap live same) ∙ dead)
     at (inr it) =
         let e = it.1 in
-        let its = held_there (work H j) (tx_maker (works H) tx) e.hands inner in
+        let its = scoped (work H j) (tx_maker (works H) tx) e.hands inner in
         let hands : hands_out_in k (work H j) ≡ true = ap (λ i. hands_out_in i (work H j)) its ∙ e.hands in
         let begun = rows_begun H j k l (live_some (rows_by H j) lives) hands in
         true_false (is_some (end_of (thing_of k (ends_as H tx by (transactions H))))) (ended_now H tx by k its e.replied begun) on
@@ -179,8 +178,7 @@ fetching_now : (H : List Event) (e : Entry) (j k : ℕ) → Lawful (Heard e ∷ 
 fetching_now H e j k l some going inner lives dead =
     let its = fetches H (work H e.call_no) e.call_no e.call e.answer j (handed_out H) lives dead in
     let uses : borrower H e.call_no ≡ k = rw (its, inner) refl in
-    let begun = both (is_begun H k) (not (is_over H k)) going in
-    let s = stays H (Heard e) k l (held_asks H j k l.0 inner begun.0) going in
+    let s = stays H (Heard e) k l going in
     record { uses = uses; sent = inl (ap (λ d. has_sent e.call_no (journal (Heard e ∷ H) d)) s.same ∙ sends_there H e k l some uses) }
 
 ends_now : (H : List Event) (e : Event) (j k : ℕ) → Lawful (e ∷ H) → caller e ≢ 0 → goes_on H k ≡ true → is_over (e ∷ H) k ≡ false → scope (work H j) ≡ Held k → are_live H j ≡ true → are_live (e ∷ H) j ≡ false → Closer (e ∷ H) j (caller e) k
@@ -215,9 +213,9 @@ same_decided H (Replied n reply) m k l less some uses going none = inr (by (same
     ]
 same_decided H e m k l less some uses going none = inr none
 
-stays_closer : (H : List Event) (e : Event) (j m k : ℕ) → Lawful (e ∷ H) → m ≢ 0 → asks (work H k) ≡ true → goes_on H k ≡ true → Closer H j m k → Closer (e ∷ H) j m k
-stays_closer H e j m k l some own going c =
-    let s = stays H e k l own going in
+stays_closer : (H : List Event) (e : Event) (j m k : ℕ) → Lawful (e ∷ H) → m ≢ 0 → goes_on H k ≡ true → Closer H j m k → Closer (e ∷ H) j m k
+stays_closer H e j m k l some going c =
+    let s = stays H e k l going in
     record { uses = borrower_stays H e m less ∙ c.uses; sent = by s.same c.sent }
   where
     begun : is_begun H k ≡ true
@@ -226,7 +224,7 @@ stays_closer H e j m k l some own going c =
     less : m < length (works H)
     less = has_entered H m (λ look.
         let same : m ≡ k = sym (rw look refl) ∙ c.uses in
-        let clash : false ≡ true = sym (ap begins look) ∙ (ap (λ i. begins (work H i)) same ∙ begun_begins H k l.0 own begun) in
+        let clash : false ≡ true = sym (ap begins look) ∙ (ap (λ i. begins (work H i)) same ∙ begun_begins H k l.0 begun) in
         cc)
 
     by : home (e ∷ H) k ≡ home H k → (has_sent m (journal H (home H k)) ≡ true) ⊎ ((decided H m ≡ None) × (work H m ≡ Close j)) → (has_sent m (journal (e ∷ H) (home (e ∷ H) k)) ≡ true) ⊎ ((decided (e ∷ H) m ≡ None) × (work (e ∷ H) m ≡ Close j))
@@ -275,4 +273,4 @@ closers (e ∷ H) j m k l inner going some is = by (closers H j m k l.0) (are_li
         let made = over_some (rows_by H j) (ender_over H j (λ none. some (sym x ∙ none))) in
         let within = before made in
         let goes = went_on made within in
-        stays_closer H e j m k l some (held_asks H j k l.0 within (rows_in H j k l.0 made within)) goes (earlier within goes some x)
+        stays_closer H e j m k l some goes (earlier within goes some x)

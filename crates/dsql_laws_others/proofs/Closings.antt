@@ -15,17 +15,16 @@ use Rattle.dsql_laws_calls.proofs.laws.Tests.{same_number}
 use Rattle.dsql_laws_calls.specs.history.declared.event.Event.{Event}
 use Rattle.dsql_laws_calls.specs.history.declared.event.Event.TheVariants.{Pool}
 use Rattle.dsql_laws_calls.specs.history.Readers.Course.{caps}
-use Rattle.dsql_laws_calls.specs.history.Readers.Calls.{decided, site, told_by_others, rests, rests_with}
+use Rattle.dsql_laws_calls.specs.history.Readers.Calls.{decided, told_by_others, rests, rests_with}
 use Rattle.dsql_laws_calls.specs.history.Readers.Journals.{journal}
 use Rattle.dsql_laws_calls.specs.history.Readers.Lines.{has_sent}
 use Rattle.dsql_laws_calls.specs.history.Readers.Unfinished.{unfinished}
-use Rattle.dsql_laws_calls.specs.history.Readers.Works.{borrower, work}
+use Rattle.dsql_laws_calls.specs.history.Readers.Works.{borrower}
 use Rattle.dsql_laws_calls.specs.history.Rules.Line.{due_for}
 use Rattle.dsql_laws_calls.specs.history.Rules.Settled.{is_in_use, uses_what_is_lent, calls_stand_but}
 use Rattle.dsql_laws_calls.specs.history.Rules.Stands.{is_settled_for, stand}
-use Rattle.dsql_laws_others.specs.Beside.{is_of_pin, has_pin, PinsUsedAlike}
-use Rattle.dsql_laws_others.proofs.Pins.{lingers_at}
-use Rattle.dsql_laws_others.proofs.Untouched.{Within, all_in, each_still, in_use_as, still_stands, within_first, within_rest}
+use Rattle.dsql_laws_others.proofs.Alike.{in_use_alike, all_alike}
+use Rattle.dsql_laws_others.proofs.Untouched.{each_still, still_stands}
 use Rattle.dsql_laws_others.proofs.Homes.{HomeStays, HomeUnlent, due_moved, used_moved, told_still}
 use Rattle.dsql_laws_others.proofs.Openings.{number_or}
 
@@ -100,26 +99,26 @@ due_closes H c why m at = due_moved H (CloseStart c why) m (home_closes H c why 
 
 -- Lent connections are in use as before.
 
-same_all : (H : List Event) (q r : Conn → Bool) (c : ℕ) (conns : List Conn) (x : Conn) → Within H conns → ((y : Conn) → ((p : ℕ) → is_of_pin p y.place ≡ true → has_pin H p ≡ true) → q y ≡ r y) → ((y : Conn) → q (closing y) ≡ true) → ((y : Conn) → y.place ≡ Idle → r y ≡ true) → conn_of c conns ≡ Some x
+same_all : (q r : Conn → Bool) (c : ℕ) (conns : List Conn) (x : Conn) → ((y : Conn) → q y ≡ r y) → ((y : Conn) → q (closing y) ≡ true) → ((y : Conn) → y.place ≡ Idle → r y ≡ true) → conn_of c conns ≡ Some x
     → x.place ≡ Idle → list_all q (conn_changed c closing conns) ≡ list_all r conns
-same_all H q r c [] x all same shut idle is at = refl
-same_all H q r c (y ∷ ys) x all same shut idle is at = by (λ k. same_all H q r c ys x (within_rest H y ys all) same shut idle k at) (y.number == c) is
+same_all q r c [] x same shut idle is at = refl
+same_all q r c (y ∷ ys) x same shut idle is at = by (λ k. same_all q r c ys x same shut idle k at) (y.number == c) is
   where
     here : y ≡ x → (q (closing y) && list_all q ys) ≡ (r y && list_all r ys)
     here one =
         ap (λ b. b && list_all q ys) (shut y)
-        ∙ (all_in H q r ys (within_rest H y ys all) same ∙ sym (ap (λ b. b && list_all r ys) (idle y (ap (λ (z : Conn). z.place) one ∙ at))))
+        ∙ (all_alike q r ys same ∙ sym (ap (λ b. b && list_all r ys) (idle y (ap (λ (z : Conn). z.place) one ∙ at))))
 
     by : (conn_of c ys ≡ Some x → list_all q (conn_changed c closing ys) ≡ list_all r ys) → (b : Bool) → cond b (Some y) (conn_of c ys) ≡ Some x
         → list_all q (cond b (closing y ∷ ys) (y ∷ conn_changed c closing ys)) ≡ list_all r (y ∷ ys)
     by rest true k = let one : y ≡ x = cc in here one
-    by rest false k = ap (λ b. b && list_all q (conn_changed c closing ys)) (same y (within_first H y ys all)) ∙ ap (λ b. r y && b) (rest k)
+    by rest false k = ap (λ b. b && list_all q (conn_changed c closing ys)) (same y) ∙ ap (λ b. r y && b) (rest k)
 
-pub used_closes : (H : List Event) (c : ℕ) (why : CloseCause) → place H c ≡ Some Idle → PinsUsedAlike H (closes_at H c why) → uses_what_is_lent (closes_at H c why) ≡ uses_what_is_lent H
-used_closes H c why at pins =
+pub used_closes : (H : List Event) (c : ℕ) (why : CloseCause) → place H c ≡ Some Idle → uses_what_is_lent (closes_at H c why) ≡ uses_what_is_lent H
+used_closes H c why at =
     let K = closes_at H c why in
     let f = found_idle c (pool H).conns (conn_of c (pool H).conns) refl at in
-    same_all H (λ conn. is_in_use K conn.place) (λ conn. is_in_use H conn.place) c (pool H).conns f.it (λ p h. h) (λ y. in_use_as H K y.place (λ n. ap (λ b. b || rests H n) (used_moved H (CloseStart c why) n (home_closes H c why at))) pins)
+    same_all (λ conn. is_in_use K conn.place) (λ conn. is_in_use H conn.place) c (pool H).conns f.it (λ y. in_use_alike H K y.place (λ n. ap (λ b. b || rests H n) (used_moved H (CloseStart c why) n (home_closes H c why at))))
     (λ y. refl) (λ y idle. ap (is_in_use H) idle) f.is f.idle
 
 -- Where each call stands.
@@ -129,7 +128,7 @@ settled_closes H c why m at h =
     let K = closes_at H c why in
     let f = found_idle c (pool H).conns (conn_of c (pool H).conns) refl at in
     let homes : smallest (is_home m) (pool K) ≡ smallest (is_home m) (pool H) = ap (option_map (λ conn. conn.number)) (same_find (λ conn. is_home m conn.place) c (pool H).conns f.it (λ y. refl) (no_home m) f.is f.idle) in
-    let told : is_some (told_by_others H m) ≡ true → is_some (told_by_others K m) ≡ true = told_still H (CloseStart c why) m refl (λ x. sym (ap (λ d. has_sent m (journal H d)) (same_home H c why (borrower H m) at)) ∙ x) (λ p its x. ap (λ d. d == 0) (same_home H c why p at) ∙ x) in
+    let told : is_some (told_by_others H m) ≡ true → is_some (told_by_others K m) ≡ true = told_still H (CloseStart c why) m refl (λ x. sym (ap (λ d. has_sent m (journal H d)) (same_home H c why (borrower H m) at)) ∙ x) in
     ap (λ o. is_some (cond (rests H m) o None) || (is_none (decided H m) && is_some (told_by_others K m))) homes
     ∙ either (is_some (rests_with H m)) (is_none (decided H m)) (is_some (told_by_others H m)) (is_some (told_by_others K m)) told h
   where
@@ -146,8 +145,7 @@ stand_closes H c why m at h =
     let opening : smallest (is_for m) (pool K) ≡ smallest (is_for m) p =
     ap (option_map (λ conn. conn.number)) (same_find (λ conn. is_for m conn.place) c p.conns f.it (λ y. refl) (no_opening m) f.is f.idle)
     in
-    still_stands H K m refl (λ x. x) (λ x. ap (λ o. is_some o) opening ∙ x) (λ x. ap (λ d. is_some d) (due_closes H c why m at) ∙ x)
-    (λ x. inl (lingers_at H (Pool (CloseStart c why)) (site H m) (site K m) m (work H m) (λ p. refl) (λ y. ap (λ d. d == 0) (same_home H c why (borrower H m) at) ∙ y) x)) (λ x. x) (settled_closes H c why m at) h
+    still_stands H K m refl (λ x. x) (λ x. ap (λ o. is_some o) opening ∙ x) (λ x. ap (λ d. is_some d) (due_closes H c why m at) ∙ x) (λ x. x) (settled_closes H c why m at) h
 
 pub goes_on_closes : (H : List Event) (c : ℕ) (why : CloseCause) (n : ℕ) → place H c ≡ Some Idle → calls_stand_but n H ≡ true → calls_stand_but n (closes_at H c why) ≡ true
 goes_on_closes H c why n at h = each_still n (unfinished H) H (closes_at H c why) (λ m. stand_closes H c why m at) h

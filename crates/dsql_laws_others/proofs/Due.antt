@@ -1,36 +1,32 @@
 -- If a driver call is due on a lent connection, the connection is in use. The argument takes the kinds of work
 -- apart.
-use Rattle.std.proofs.Common.{◌≡◌, ℕ, ◌==◌, ◌⊎◌, inl, inr, Bool, true, false, not, ◌&&◌, ◌||◌, cond, List, [], ◌∷◌, Some, None, is_some, is_none, refl, sym, ap, ◌∙◌}
+use Rattle.std.proofs.Common.{◌≡◌, ℕ, ◌==◌, ◌⊎◌, inl, inr, Bool, true, false, not, ◌&&◌, ◌||◌, cond, List, Some, None, is_some, is_none, refl, sym, ap, ◌∙◌}
 use Rattle.dsql_laws_calls.specs.course.declared.course.Wish.{Wish}
 use Rattle.dsql_laws_calls.specs.course.declared.course.Wish.TheVariants as wishes
 use Rattle.dsql_laws_calls.specs.course.Made.{Exchange, own_cursor}
 use Rattle.dsql_laws_calls.specs.journal.declared.entry.Owner.{Owner}
-use Rattle.dsql_laws_calls.specs.journal.declared.entry.Owner.TheVariants as owners
-use Rattle.dsql_laws_calls.specs.journal.Kinds.{is_pin, number_of}
-use Rattle.std.specs.List.{list_any}
-use Rattle.dsql_laws_calls.specs.journal.Readers.{has, went_bad}
+use Rattle.dsql_laws_calls.specs.journal.Kinds.{number_of}
+use Rattle.dsql_laws_calls.specs.journal.Readers.{went_bad}
 use Rattle.dsql_laws_calls.specs.works.Line.{handed}
 use Rattle.dsql_laws_calls.specs.pool.declared.conn.Place.TheVariants.{Lent}
 use Rattle.dsql_laws_calls.specs.history.Readers.HandedOut.{over, rows_by, are_live, are_over, ender, is_late}
 use Rattle.dsql_laws_calls.specs.history.Rules.Wishes.{wish_as}
 use Rattle.dsql_laws_calls.proofs.laws.Tests.{both, same_number, same_itself}
 use Rattle.dsql_laws_calls.specs.history.declared.event.Event.{Event}
-use Rattle.dsql_laws_calls.specs.history.declared.work.Scope.TheVariants.{Db, Held, Pinned, Within}
+use Rattle.dsql_laws_calls.specs.history.declared.work.Scope.TheVariants.{Db, Held}
 use Rattle.dsql_laws_calls.specs.history.declared.work.Work.{Work}
 use Rattle.dsql_laws_calls.specs.history.declared.work.Task.TheVariants.{HandOut}
-use Rattle.dsql_laws_calls.specs.history.declared.work.Work.TheVariants.{Statement, BeginOn, End, EndWithin, Unpin, PingOn, Fetch, Close, Look}
+use Rattle.dsql_laws_calls.specs.history.declared.work.Work.TheVariants.{Statement, End, Fetch, Close, Look}
 use Rattle.dsql_laws_calls.specs.history.Readers.Calls.{decided, site, has_begun_to_send}
 use Rattle.dsql_laws_calls.specs.history.Readers.Course.{caps}
 use Rattle.dsql_laws_calls.specs.history.Readers.Journals.{journal, heard_in}
 use Rattle.dsql_laws_calls.specs.history.Readers.Lines.{line_among, has_sent}
 use Rattle.dsql_laws_calls.specs.history.Readers.Pool.{place, home}
 use Rattle.dsql_laws_calls.specs.history.Readers.Transactions.{is_begun, is_over, goes_on, tx_ender}
-use Rattle.dsql_laws_calls.specs.history.Readers.Unfinished.{unfinished, is_unfinished}
+use Rattle.dsql_laws_calls.specs.history.Readers.Unfinished.{is_unfinished}
 use Rattle.dsql_laws_calls.specs.history.Readers.Works.{work, aim_of, scope, is_in, is_fetch, asks, hands_out_in, borrower}
 use Rattle.dsql_laws_calls.specs.history.Rules.Ending.{ending}
-use Rattle.dsql_laws_calls.specs.history.Rules.Line.{sends_in, due_inside, due_in, due_for, has_turn, holder, is_heard_on, is_held, is_next_on, is_perhaps_used, is_used, may_be_under_way, uses_pin}
-use Rattle.dsql_laws_calls.specs.history.Rules.Pinned.{kept_by, unpinning}
-use Rattle.dsql_laws_calls.specs.history.Rules.Settled.{keeps_pin}
+use Rattle.dsql_laws_calls.specs.history.Rules.Line.{sends_in, due_inside, due_in, due_for, is_used}
 use Rattle.dsql_laws_calls.specs.history.Rules.Sent.{asked_by, line_of, closes, wish, sent_for}
 use Rattle.dsql_laws_calls.specs.history.Legal.{Lawful}
 use Rattle.dsql_laws_calls.proofs.Beginnings.{begin_owner}
@@ -45,10 +41,9 @@ use Rattle.dsql_laws_calls.proofs.Lines.{line_there, line_here, closes_too}
 use Rattle.dsql_laws_calls.proofs.LiveRows.{dead_over, live_some}
 use Rattle.dsql_laws_calls.proofs.Makers.{hands_out, rows_hand_out, sent_made}
 use Rattle.dsql_laws_calls.proofs.Own.{asks_own, going_used, own_used, due_own}
-use Rattle.dsql_laws_calls.proofs.Owners.{at_home, lent_asks}
+use Rattle.dsql_laws_calls.proofs.Owners.{at_home}
 use Rattle.dsql_laws_calls.proofs.Quiet.{quiet_sends_none}
 use Rattle.dsql_laws_calls.proofs.RowsKept.{live_used}
-use Rattle.dsql_laws_calls.proofs.Scopes.{pin_of, pin_owner}
 use Rattle.dsql_laws_calls.proofs.Sound.{Sound}
 use Rattle.dsql_laws_calls.proofs.UnderWay.{Facts, Going, line_made, ending_over, left_of}
 use Rattle.dsql_laws_calls.proofs.Why.{Left, tx_used, why_used}
@@ -63,12 +58,8 @@ line_number H n c t own l at uses w h = ap (λ d. is_some d) (sym (line_here H c
 
 -- Rows that are live or still to be closed keep the connection in use.
 
--- A call on a pin uses the connection of a pin.
-unpinned : {A : Type 0} (H : List Event) (j p c t : ℕ) (own : Owner) → Lawful H → place H c ≡ Some (Lent t own) → is_pin own ≡ false → pin_of (work H j) ≡ p → borrower H j ≡ p → borrower H j ≡ number_of own → A
-unpinned H j p c t own l at off on is uses = clash (sym (pin_owner H c t own j l at (on ∙ (sym is ∙ uses))) ∙ off)
-
-pub live_keeps : (H : List Event) (j c t : ℕ) (own : Owner) → Lawful H → place H c ≡ Some (Lent t own) → is_pin own ≡ false → borrower H j ≡ number_of own → are_live H j ≡ true → is_used H (number_of own) ≡ true
-live_keeps H j c t own l at off uses lives = by (work H j) refl (rows_hand_out H j (live_some (rows_by H j) lives))
+pub live_keeps : (H : List Event) (j : ℕ) (own : Owner) → Lawful H → borrower H j ≡ number_of own → are_live H j ≡ true → is_used H (number_of own) ≡ true
+live_keeps H j own l uses lives = by (work H j) refl (rows_hand_out H j (live_some (rows_by H j) lives))
   where
     by : (it : Work) → work H j ≡ it → hands_out it ≡ true → is_used H (number_of own) ≡ true
     by (Statement Db (HandOut label)) is h =
@@ -77,13 +68,11 @@ live_keeps H j c t own l at off uses lives = by (work H j) refl (rows_hand_out H
     by (Statement (Held k) (HandOut label)) is h =
         let its : borrower H j ≡ k = rw is refl in
         ap (is_used H) (sym uses ∙ its) ∙ going_used H k (live_goes H j k l lives (ap (hands_out_in k) is ∙ same_itself k))
-    by (Statement (Pinned p) (HandOut label)) is h = unpinned H j p c t own l at off (ap pin_of is) (rw is refl) uses
-    by (Statement (Within p k) (HandOut label)) is h = unpinned H j p c t own l at off (ap pin_of is) (rw is refl) uses
     by it is h = absurd cc
 
-pub over_keeps : (H : List Event) (j c t : ℕ) (own : Owner) → Lawful H → place H c ≡ Some (Lent t own) → is_pin own ≡ false → borrower H j ≡ number_of own → is_some (rows_by H j) ≡ true → are_over H j ≡ true → is_some (line_of H j wishes.Close) ≡ true
+pub over_keeps : (H : List Event) (j c t : ℕ) (own : Owner) → Lawful H → place H c ≡ Some (Lent t own) → borrower H j ≡ number_of own → is_some (rows_by H j) ≡ true → are_over H j ≡ true → is_some (line_of H j wishes.Close) ≡ true
     → is_used H (number_of own) ≡ true
-over_keeps H j c t own l at off uses made gone line = by (work H j) refl (rows_hand_out H j made)
+over_keeps H j c t own l at uses made gone line = by (work H j) refl (rows_hand_out H j made)
   where
     sends : is_some (line_there H c t own j wishes.Close) ≡ true
     sends = line_number H j c t own l at uses wishes.Close line
@@ -96,15 +85,13 @@ over_keeps H j c t own l at off uses made gone line = by (work H j) refl (rows_h
         let its : number_of own ≡ k = sym uses ∙ rw is refl in
         let hands : hands_out_in (number_of own) (work H j) ≡ true = ap (hands_out_in (number_of own)) is ∙ (ap (λ i. k == i) its ∙ same_itself k) in
         tx_used H c t own l at (record { begun = rows_begun H j (number_of own) l made hands; left = inr (inl (j, record { hands = hands; over = gone; sends = sends })) })
-    by (Statement (Pinned p) (HandOut label)) is h = unpinned H j p c t own l at off (ap pin_of is) (rw is refl) uses
-    by (Statement (Within p k) (HandOut label)) is h = unpinned H j p c t own l at off (ap pin_of is) (rw is refl) uses
     by it is h = absurd cc
 
 -- What a call sends for rows keeps the connection in use.
 
-rows_keep : (H : List Event) (m j c t : ℕ) (own : Owner) → Lawful H → (m == 0) ≡ false → place H c ≡ Some (Lent t own) → is_pin own ≡ false → (work H m ≡ Fetch j) ⊎ (work H m ≡ Close j) → borrower H m ≡ number_of own
+rows_keep : (H : List Event) (m j c t : ℕ) (own : Owner) → Lawful H → (m == 0) ≡ false → place H c ≡ Some (Lent t own) → (work H m ≡ Fetch j) ⊎ (work H m ≡ Close j) → borrower H m ≡ number_of own
     → is_some (sent_for H j (wish H m j)) ≡ true → is_used H (number_of own) ≡ true
-rows_keep H m j c t own l some at off its uses sent = by (closes H m j) (is_fetch (work H m) && (are_live H j && is_none (decided H m))) refl refl sent
+rows_keep H m j c t own l some at its uses sent = by (closes H m j) (is_fetch (work H m) && (are_live H j && is_none (decided H m))) refl refl sent
   where
     made : is_some (rows_by H j) ≡ true
     made = sent_made H m j some sent
@@ -118,11 +105,11 @@ rows_keep H m j c t own l some at off its uses sent = by (closes H m j) (is_fetc
         ender_over H j (λ none. clash (sym (ap (λ i. i == 0) (sym (same_number (ender H j) m b.0)) ∙ (ap (λ i. i == 0) none ∙ refl)) ∙ some))
 
     by : (b f : Bool) → closes H m j ≡ b → (is_fetch (work H m) && (are_live H j && is_none (decided H m))) ≡ f → is_some (sent_for H j (wish_as b f)) ≡ true → is_used H (number_of own) ≡ true
-    by true f ends fetches x = over_keeps H j c t own l at off user made (gone ends) x
+    by true f ends fetches x = over_keeps H j c t own l at user made (gone ends) x
     by false true ends fetches x =
         let a = both (is_fetch (work H m)) (are_live H j && is_none (decided H m)) fetches in
         let b = both (are_live H j) (is_none (decided H m)) a.1 in
-        live_keeps H j c t own l at off user b.0
+        live_keeps H j own l user b.0
     by false false ends fetches x = absurd cc
 
 -- What a call sends in a transaction keeps the connection in use.
@@ -187,7 +174,7 @@ inner_keeps H m c t own l at here u inner due = by (sends_in H m (number_of own)
         from (inr (inl n)) = used (inl n.none)
         from (inr (inr q)) =
             clash (sym there
-            ∙ (inner_line H c t own m wishes.Nothing (number_of own) (begin_owner H c t own l at (begun_begins H (number_of own) l (lent_asks H c t own l at) begun)) inner
+            ∙ (inner_line H c t own m wishes.Nothing (number_of own) (begin_owner H c t own l at (begun_begins H (number_of own) l begun)) inner
             ∙ quiet_sends_none (caps H) (went_bad (journal H c)) (asked_by H m) wishes.Nothing (line_among m (heard_in H c t)) q))
 
     by : (b g : Bool) → sends_in H m (number_of own) ≡ b → goes_on H (number_of own) ≡ g → is_some (cond b (line_of H m wishes.Nothing) None) ≡ true → is_used H (number_of own) ≡ true
@@ -199,10 +186,10 @@ inner_keeps H m c t own l at here u inner due = by (sends_in H m (number_of own)
         over_now (ended begun off) begun x begins
     by false false sends off x = absurd cc
 
--- So whatever is due for a call keeps the connection that it uses in use, if that is no pin's.
+-- So whatever is due for a call keeps the connection that it uses in use.
 
-pub due_keeps : (H : List Event) (m c t : ℕ) (own : Owner) → Lawful H → (m == 0) ≡ false → place H c ≡ Some (Lent t own) → is_pin own ≡ false → borrower H m ≡ number_of own → is_some (due_for H m) ≡ true → is_used H (number_of own) ≡ true
-due_keeps H m c t own l some at off uses due = unfinished (is_unfinished H m) refl due
+pub due_keeps : (H : List Event) (m c t : ℕ) (own : Owner) → Lawful H → (m == 0) ≡ false → place H c ≡ Some (Lent t own) → borrower H m ≡ number_of own → is_some (due_for H m) ≡ true → is_used H (number_of own) ≡ true
+due_keeps H m c t own l some at uses due = unfinished (is_unfinished H m) refl due
   where
     here : site H m ≡ c
     here = ap (home H) uses ∙ at_home H c t own l at
@@ -227,72 +214,12 @@ due_keeps H m c t own l some at off uses due = unfinished (is_unfinished H m) re
 
     by : is_unfinished H m ≡ true → (w : Work) → work H m ≡ w → is_some (due_in H m w) ≡ true → is_used H (number_of own) ≡ true
     by u (Statement (Held k) task) is x = inner k u (ap scope is) x
-    by u (Fetch j) is x = rows_keep H m j c t own l some at off (inl is) uses x
-    by u (Close j) is x = rows_keep H m j c t own l some at off (inr is) uses x
+    by u (Fetch j) is x = rows_keep H m j c t own l some at (inl is) uses x
+    by u (Close j) is x = rows_keep H m j c t own l some at (inr is) uses x
     by u (End k) is x = ends k is (tx_ender H k == m) x
     by u Look is x = absurd cc
-    by u (Statement (Pinned p) task) is x = unpinned H m p c t own l at off (ap pin_of is) (rw is refl) uses
-    by u (Statement (Within p k) task) is x = unpinned H m p c t own l at off (ap pin_of is) (rw is refl) uses
-    by u (BeginOn p label level read_only) is x = unpinned H m p c t own l at off (ap pin_of is) (rw is refl) uses
-    by u (PingOn p) is x = unpinned H m p c t own l at off (ap pin_of is) (rw is refl) uses
-    by u (EndWithin p k) is x = unpinned H m p c t own l at off (ap pin_of is) (rw is refl) uses
-    by u (Unpin p) is x = unpinned H m p c t own l at off (ap pin_of is) (rw is refl) uses
     by u _ is x = asking u (ap asks is) (ap (λ w. is_some (due_in H m w)) is ∙ x)
 
     unfinished : (b : Bool) → is_unfinished H m ≡ b → is_some (cond b (due_in H m (work H m)) None) ≡ true → is_used H (number_of own) ≡ true
     unfinished true u x = by u (work H m) refl x
     unfinished false u x = absurd cc
-
--- What is due on the connection of a pin keeps that in use, too. Either another call has the turn there, or the driver
--- call may be under way.
-
-pub next_under_way : (H : List Event) (c m : ℕ) → is_next_on H c m ≡ true → may_be_under_way H c m ≡ true
-next_under_way [] c m h = never (site [] m == c) h
-  where
-    never : {A : Type 0} → (b : Bool) → (b && false) ≡ true → A
-    never true x = absurd cc
-    never false x = absurd cc
-next_under_way (last ∷ earlier) c m h = ap (λ b. b || (not (is_heard_on c last) && may_be_under_way earlier c m)) h
-
-any_has : (q : ℕ → Bool) (ns : List ℕ) (n : ℕ) → has n ns ≡ true → q n ≡ true → list_any q ns ≡ true
-any_has q [] n there h = absurd cc
-any_has q (k ∷ ns) n there h = by (any_has q ns n) (k == n) refl there
-  where
-    later : (b : Bool) → list_any q ns ≡ true → (b || list_any q ns) ≡ true
-    later true x = refl
-    later false x = x
-
-    by : (has n ns ≡ true → q n ≡ true → list_any q ns ≡ true) → (b : Bool) → (k == n) ≡ b → (b || has n ns) ≡ true → (q k || list_any q ns) ≡ true
-    by rest true is x = ap (λ b. b || list_any q ns) (ap q (same_number k n is) ∙ h)
-    by rest false is x = later (q k) (rest x h)
-
-pub due_keeps_pin : (H : List Event) (m c t : ℕ) (own : Owner) → Lawful H → place H c ≡ Some (Lent t own) → is_pin own ≡ true → borrower H m ≡ number_of own → is_some (due_for H m) ≡ true → keeps_pin H own ≡ true
-due_keeps_pin H m c t (owners.Pin p) l at on uses due = by (holder H (home H p) == 0) refl
-  where
-    u : is_unfinished H m ≡ true
-    u = of (is_unfinished H m) due
-      where
-        of : (b : Bool) → is_some (cond b (due_in H m (work H m)) None) ≡ true → b ≡ true
-        of true x = refl
-        of false x = absurd cc
-
-    second : (a b : Bool) → b ≡ true → (a || b) ≡ true
-    second true b x = refl
-    second false b x = x
-
-    kept : (a b t w : Bool) → t ≡ false → (a || (b || (not t || w))) ≡ true
-    kept true b t w x = refl
-    kept false true t w x = refl
-    kept false false true w x = absurd cc
-    kept false false false w x = refl
-
-    by : (b : Bool) → (holder H (home H p) == 0) ≡ b → keeps_pin H (owners.Pin p) ≡ true
-    by true free =
-        let next : is_next_on H (home H p) m ≡ true =
-        ap (λ s. (s == home H p) && (is_some (due_for H m) && has_turn H (home H p) m)) (ap (home H) uses)
-        ∙ (ap (λ b. b && (is_some (due_for H m) && has_turn H (home H p) m)) (same_itself (home H p))
-        ∙ (ap (λ b. b && has_turn H (home H p) m) due ∙ ap (λ b. b || (holder H (home H p) == m)) free))
-        in
-        second (uses_pin H (owners.Pin p)) (list_any (may_be_under_way H (home H p)) (unfinished H)) (any_has (may_be_under_way H (home H p)) (unfinished H) m u (next_under_way H (home H p) m next))
-    by false held = ap (λ b. b || is_perhaps_used H (owners.Pin p)) (kept (is_held H p) (is_some (kept_by H p)) (holder H (home H p) == 0) (is_some (unpinning H p)) held)
-due_keeps_pin H m c t own l at on uses due = absurd cc

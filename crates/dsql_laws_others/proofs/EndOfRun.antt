@@ -5,7 +5,7 @@ use Rattle.std.specs.Option.{option_map}
 use Rattle.dsql_laws_calls.specs.course.declared.course.Wish.{Wish}
 use Rattle.dsql_laws_calls.specs.course.declared.course.Wish.TheVariants as wishes
 use Rattle.dsql_laws_calls.specs.journal.declared.entry.Owner.{Owner}
-use Rattle.dsql_laws_calls.specs.journal.Kinds.{is_pin, number_of}
+use Rattle.dsql_laws_calls.specs.journal.Kinds.{number_of}
 use Rattle.dsql_laws_calls.specs.pool.declared.conn.Place.TheVariants.{Lent}
 use Rattle.dsql_laws_calls.specs.rows.declared.rows.Rows.{Rows}
 use Rattle.dsql_laws_calls.specs.rows.OpenRows.{is_live}
@@ -31,15 +31,13 @@ use Rattle.dsql_laws_calls.specs.history.Rules.Settled.{is_kept, uses_what_is_le
 use Rattle.dsql_laws_calls.specs.history.Legal.{Lawful}
 use Rattle.dsql_laws_calls.specs.laws.OwedMade.{with_moves}
 use Rattle.dsql_laws_calls.proofs.laws.AtRest.{before_event, rested}
-use Rattle.dsql_laws_calls.proofs.Begun.{begun_begins, begun_starts, ended_tx as tx_at_end, over_begun}
+use Rattle.dsql_laws_calls.proofs.Begun.{begun_begins, ended_tx as tx_at_end, over_begun}
 use Rattle.dsql_laws_calls.proofs.Coming.{sound}
 use Rattle.dsql_laws_calls.proofs.EndedRows.{rows_at_end_of}
 use Rattle.dsql_laws_calls.proofs.Inside.{live_goes}
 use Rattle.dsql_laws_calls.proofs.LiveRows.{live_some}
-use Rattle.dsql_laws_calls.proofs.Makers.{rows_start_nothing}
-use Rattle.dsql_laws_calls.proofs.Plain.{starts}
-use Rattle.dsql_laws_calls.proofs.Beginnings.{begin_no_pin}
-use Rattle.dsql_laws_calls.proofs.Owners.{lent_asks}
+use Rattle.dsql_laws_calls.proofs.Makers.{rows_begin_nothing}
+use Rattle.dsql_laws_calls.proofs.Plain.{begins}
 use Rattle.dsql_laws_calls.proofs.Rows.{none_at_end}
 use Rattle.dsql_laws_calls.proofs.UnderWay.{Facts, ending_over}
 use Rattle.dsql_laws_calls.proofs.Why.{ended_there, tx_used}
@@ -108,13 +106,6 @@ record LentAtEnd (H : List Event) : Type 0 where
   owner : Owner
   lent : place H conn ≡ Some (Lent tenure owner)
 
--- A transaction that goes on with a connection of its own isn't on a pin.
-off_pin : (H : List Event) (x : LentAtEnd H) → goes_on H (number_of x.owner) ≡ true → is_pin x.owner ≡ false
-off_pin H x goes =
-    let l = x.lawful in
-    let b = both (is_begun H (number_of x.owner)) (not (is_over H (number_of x.owner))) goes in
-    begin_no_pin H x.conn x.tenure x.owner l.0 x.lent (begun_begins H (number_of x.owner) l.0 (lent_asks H x.conn x.tenure x.owner l.0 x.lent) b.0)
-
 going_end : (H : List Event) (x : LentAtEnd H) → goes_on H (number_of x.owner) ≡ true → is_used (Ended ∷ H) (number_of x.owner) ≡ true
 going_end H x goes =
     let K = Ended ∷ H in
@@ -131,7 +122,7 @@ going_end H x goes =
     on h = let l = x.lawful in let s = sound H l.0 in of s.facts
       where
         of : Facts H → ended_there (heard_in H x.conn x.tenure) ≡ false
-        of f = f.ends x.conn x.tenure x.owner x.lent (off_pin H x goes) h
+        of f = f.ends x.conn x.tenure x.owner x.lent h
 
 -- Something is left to be sent for rows that are over, if their closing line goes on.
 left_over : (H : List Event) (j : ℕ) (o : Option Rows) → over o ≡ true → is_some (line_of H j wishes.Close) ≡ true → is_some (rest_with H j o) ≡ true
@@ -171,7 +162,7 @@ live_end H x lives = by_rest K j (sent (is_begun K j) refl)
         left_over K j (rows_by K j) (gone (rows_turn H j)) (ap (λ d. is_some d) (same_line H j wishes.Close l) ∙ live_closes H x.conn x.tenure x.owner l.0 x.lent lives)
     sent true is =
         let l = x.lawful in
-        absurd (true_false (starts (work H j)) (begun_starts H j l.0 (sym (same_begun H j) ∙ is)) (rows_start_nothing H j (live_some (rows_by H j) lives)))
+        absurd (true_false (begins (work H j)) (begun_begins H j l.0 (sym (same_begun H j) ∙ is)) (rows_begin_nothing H j (live_some (rows_by H j) lives)))
 
 rest_end : (H : List Event) (x : LentAtEnd H) → are_live H (number_of x.owner) ≡ false → is_some (rest H (number_of x.owner)) ≡ true → is_used (Ended ∷ H) (number_of x.owner) ≡ true
 rest_end H x dead h = by_rest K j (ap (λ b. is_some (cond b (ending K j) (rest_with K j (rows_by K j)))) (same_begun H j) ∙ by (is_begun H j) h)

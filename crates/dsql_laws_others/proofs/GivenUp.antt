@@ -8,8 +8,7 @@ use Rattle.dsql_laws_calls.specs.course.declared.course.Wish.TheVariants as wish
 use Rattle.dsql_laws_calls.specs.course.Made.{or_else}
 use Rattle.dsql_laws_calls.specs.driver.declared.caps.Caps.{Caps}
 use Rattle.dsql_laws_calls.specs.journal.declared.entry.Owner.{Owner}
-use Rattle.dsql_laws_calls.specs.journal.declared.entry.Owner.TheVariants.{Call}
-use Rattle.dsql_laws_calls.specs.journal.Kinds.{is_call, number_of}
+use Rattle.dsql_laws_calls.specs.journal.Kinds.{number_of}
 use Rattle.dsql_laws_calls.specs.journal.Readers.{is_empty}
 use Rattle.dsql_laws_calls.specs.rows.declared.rows.Rows.{Rows}
 use Rattle.dsql_laws_calls.specs.wait.declared.request.Request.{Request}
@@ -46,10 +45,10 @@ use Rattle.dsql_laws_calls.specs.history.Readers.Journals.{journal}
 use Rattle.dsql_laws_calls.specs.history.Readers.Owed.{fate, given_back, owed}
 use Rattle.dsql_laws_calls.specs.history.Readers.Transactions.{is_begun, is_over}
 use Rattle.dsql_laws_calls.specs.history.Readers.Unfinished.{is_unfinished}
-use Rattle.dsql_laws_calls.specs.history.Readers.Works.{asks, work}
+use Rattle.dsql_laws_calls.specs.history.Readers.Works.{work}
 use Rattle.dsql_laws_calls.specs.history.Rules.Causes.{goes_in_turn}
 use Rattle.dsql_laws_calls.specs.history.Rules.Ending.{ending}
-use Rattle.dsql_laws_calls.specs.history.Rules.Line.{due_in, due_for, rest_with, is_used, uses_pin}
+use Rattle.dsql_laws_calls.specs.history.Rules.Line.{due_in, due_for, rest_with, is_used}
 use Rattle.dsql_laws_calls.specs.history.Rules.Sent.{line_of}
 use Rattle.dsql_laws_calls.specs.history.Rules.Settled.{owes_nothing, uses_what_is_lent, calls_stand_but, is_settled_but}
 use Rattle.dsql_laws_calls.specs.history.Legal.{Lawful}
@@ -71,7 +70,7 @@ use Rattle.dsql_laws_others.specs.GivenUp.{MayGiveUp}
 use Rattle.dsql_laws_others.proofs.Left.{Leaving, due_left, left_homeless}
 use Rattle.dsql_laws_others.proofs.Leaves.{given_settles, leaves_back, leaves_closing, lent_used}
 use Rattle.dsql_laws_others.proofs.OnceLeft.{once}
-use Rattle.dsql_laws_others.proofs.Rested.{pings_as_call, resting, rests_pinging, only_resets, rests_well}
+use Rattle.dsql_laws_others.proofs.Rested.{resting, rests_pinging, only_resets, rests_well}
 use Rattle.dsql_laws_others.proofs.Unopened.{whole_when_reset}
 
 -- A call that was served has no further try.
@@ -129,7 +128,7 @@ unused H n l pings u silent =
       where
         by : (b : Bool) → is_begun H n ≡ b → b ≡ false
         by false is = refl
-        by true is = let clash : false ≡ true = sym (ap begins pings) ∙ begun_begins H n l (ap asks pings) is in absurd cc
+        by true is = let clash : false ≡ true = sym (ap begins pings) ∙ begun_begins H n l is in absurd cc
 
     no_rows : (o : Option Rows) → (is_some o ≡ true → hands_out (work H n) ≡ true) → o ≡ None
     no_rows None h = refl
@@ -217,10 +216,6 @@ none_with G n none = ap (λ o. cond (rests G n) o None) none ∙ by (rests G n)
 
 -- So the call may give the connection back.
 
-unpinned : (H : List Event) (own : Owner) → is_call own ≡ true → uses_pin H own ≡ false
-unpinned H (Call n) h = refl
-unpinned H own h = absurd cc
-
 may_give_up : (H : List Event) (c t : ℕ) (own : Owner) → Lawful H → number_of own ≢ 0 → is_settled_but (number_of own) H ≡ true → is_unfinished H (number_of own) ≡ true → is_some (due_for H (number_of own)) ≡ false
     → rests H (number_of own) ≡ true → place H c ≡ Some (Lent t own) → MayGiveUp H (number_of own) c
 may_give_up H c t own l some settled u silent rested at =
@@ -238,7 +233,6 @@ may_give_up H c t own l some settled u silent rested at =
       owned = own_is.0;
       turn = in_turn H c t own at settled;
       unused = unused H n l r.pings u silent;
-      unpinned = unpinned H own (pings_as_call H c t own l at r.pings);
       whole = whole_when_reset t (journal H c) heard.resets;
     }
     in

@@ -5,7 +5,7 @@ use Rattle.std.proofs.lemmas.Bool.{or_cases}
 use Rattle.std.specs.Option.{option_map}
 use Rattle.dsql_laws_calls.specs.course.declared.course.Wish.{Wish}
 use Rattle.dsql_laws_calls.specs.course.declared.course.Wish.TheVariants as wishes
-use Rattle.dsql_laws_calls.specs.course.Made.{Exchange, or_else, own_cursor, rows_are_over}
+use Rattle.dsql_laws_calls.specs.course.Made.{Exchange, own_cursor, rows_are_over}
 use Rattle.dsql_laws_calls.specs.driver.declared.caps.Caps.{Caps}
 use Rattle.dsql_laws_calls.specs.driver.declared.answer.DriverAnswer.{DriverAnswer}
 use Rattle.dsql_laws_calls.specs.driver.declared.answer.DriverAnswer.TheVariants.{Cursor, Row, Bad, Fail}
@@ -16,9 +16,7 @@ use Rattle.dsql_laws_calls.specs.driver.declared.call.Input.TheVariants.{Text, H
 use Rattle.dsql_laws_calls.specs.driver.Kinds.{is_next, ends_cursor}
 use Rattle.dsql_laws_calls.specs.journal.declared.entry.Entry.{Entry}
 use Rattle.dsql_laws_calls.specs.journal.declared.entry.Owner.{Owner}
-use Rattle.dsql_laws_calls.specs.journal.declared.entry.Owner.TheVariants.{Call}
-use Rattle.dsql_laws_calls.specs.Chores.{is_lent_for}
-use Rattle.dsql_laws_calls.specs.journal.Kinds.{is_call, is_house, is_pin, number_of}
+use Rattle.dsql_laws_calls.specs.journal.Kinds.{is_call, is_house, number_of}
 use Rattle.dsql_laws_calls.specs.journal.Readers.{of_tenure}
 use Rattle.dsql_laws_calls.specs.pool.declared.conn.Place.TheVariants.{Lent}
 use Rattle.dsql_laws_calls.specs.pool.declared.moves.Move.TheVariants.{Lend}
@@ -39,20 +37,18 @@ use Rattle.dsql_laws_calls.proofs.Cases.{true_false}
 use Rattle.dsql_laws_calls.proofs.laws_work.Rows.{same_or_not}
 use Rattle.dsql_laws_calls.specs.history.declared.event.Event.{Event}
 use Rattle.dsql_laws_calls.specs.history.declared.event.Event.TheVariants.{Entered, Heard, Pool, Ended}
-use Rattle.dsql_laws_calls.specs.history.declared.work.Scope.TheVariants.{Db, Held, Pinned, Within}
+use Rattle.dsql_laws_calls.specs.history.declared.work.Scope.TheVariants.{Db, Held}
 use Rattle.dsql_laws_calls.specs.history.declared.work.Work.{Work}
 use Rattle.dsql_laws_calls.specs.history.declared.work.Task.TheVariants.{HandOut}
-use Rattle.dsql_laws_calls.specs.history.declared.work.Work.TheVariants.{Statement, Begin, BeginOn, End, EndWithin, Pin, Unpin, PingOn, Fetch, Close, Look}
+use Rattle.dsql_laws_calls.specs.history.declared.work.Work.TheVariants.{Statement, Begin, End, Fetch, Close, Look}
 use Rattle.dsql_laws_calls.specs.history.Readers.Calls.{decided, has_begun_to_send}
 use Rattle.dsql_laws_calls.specs.history.Readers.Course.{caps}
 use Rattle.dsql_laws_calls.specs.history.Readers.Journals.{heard_in}
 use Rattle.dsql_laws_calls.specs.history.Readers.Pool.{place, home}
 use Rattle.dsql_laws_calls.specs.history.Readers.Transactions.{is_begun, tx_ender}
 use Rattle.dsql_laws_calls.specs.history.Readers.Works.{aim_of, asks, borrower, hands_out_in, is_fetch, owner_as, owner_of, scope, work}
-use Rattle.dsql_laws_calls.specs.history.Rules.Ending.{ending, ending_within}
-use Rattle.dsql_laws_calls.specs.history.Readers.Pins.{pin_ender}
-use Rattle.dsql_laws_calls.specs.history.Rules.Pinned.{unpinning}
-use Rattle.dsql_laws_calls.specs.history.Rules.Line.{due_for, due_from, due_in, is_due, is_due_at, may_come, parts, sends_from, sends_in, sends_on, tidying, tidying_for}
+use Rattle.dsql_laws_calls.specs.history.Rules.Ending.{ending}
+use Rattle.dsql_laws_calls.specs.history.Rules.Line.{due_for, due_from, due_in, is_due, is_due_at, may_come, parts, sends_from, sends_in, tidying}
 use Rattle.dsql_laws_calls.specs.history.Rules.Sent.{asked_by, closes, close_due, is_reset_due, line_of, sent_for, wish}
 use Rattle.dsql_laws_calls.specs.history.Legal.{Allowed, Lawful}
 use Rattle.dsql_laws_callers.proofs.Heard.{heard_lent}
@@ -60,27 +56,26 @@ use Rattle.dsql_laws_callers.proofs.KeptApart.{uses_its_own}
 use Rattle.dsql_laws_callers.proofs.Senders.{not_due}
 use Rattle.dsql_laws_calls.proofs.laws.Tried.{lends_to}
 use Rattle.dsql_laws_calls.proofs.BeginningsAt.{heard_more, heard_other, heard_same, heard_tenure, is_answer}
-use Rattle.dsql_laws_calls.proofs.Begun.{begun_starts, over_begun}
+use Rattle.dsql_laws_calls.proofs.Begun.{begun_begins, over_begun}
 use Rattle.dsql_laws_calls.proofs.CallTenures.{call_line, line_of_call, plain_due}
 use Rattle.dsql_laws_calls.proofs.Coming.{sound}
 use Rattle.dsql_laws_calls.proofs.DueWay.{borrow_same}
 use Rattle.dsql_laws_calls.proofs.EndedRows.{live_no_ender, rows_kept}
 use Rattle.dsql_laws_calls.proofs.HandedRows.{rows_begun}
 use Rattle.dsql_laws_calls.proofs.Inside.{inside, inside_uses}
-use Rattle.dsql_laws_calls.proofs.Lent.{Lends, lent_before, remains_lent, unparted}
+use Rattle.dsql_laws_calls.proofs.Lent.{Lends, lent_before, stays_lent}
 use Rattle.dsql_laws_calls.proofs.Lines.{line_here}
 use Rattle.dsql_laws_calls.proofs.LiveRows.{dead_over, live_not_over, live_some}
 use Rattle.dsql_laws_calls.proofs.Looks.{heard_there}
-use Rattle.dsql_laws_calls.proofs.Makers.{hands_out, rows_start_nothing, rows_hand_out, sent_made, some_heard}
+use Rattle.dsql_laws_calls.proofs.Makers.{hands_out, rows_begin_nothing, rows_hand_out, sent_made, some_heard}
 use Rattle.dsql_laws_calls.proofs.Own.{DueNow, asks_own, due_now, due_of, some_due}
 use Rattle.dsql_laws_calls.proofs.Owners.{at_home, lent_asks, lent_number, owner_is_of}
-use Rattle.dsql_laws_calls.proofs.Plain.{starts, line_plain}
-use Rattle.dsql_laws_calls.proofs.Scopes.{pin_of, pin_owner}
-use Rattle.dsql_laws_calls.proofs.Tidying.{unpinning_lent, within_lent}
+use Rattle.dsql_laws_calls.proofs.Plain.{begins, line_plain}
 use Rattle.dsql_laws_calls.proofs.Rows.{ended_live, entering_revives_none, none_at_end}
 use Rattle.dsql_laws_calls.proofs.RowsNew.{content}
 use Rattle.dsql_laws_calls.proofs.UnderWay.{Facts, at_number, ending_over, line_at_its}
 use Rattle.dsql_laws_calls.proofs.Wanted.{lent_nothing, rows_may_not_ask}
+use Rattle.dsql_laws_calls.proofs.Why.{why_used}
 use Rattle.dsql_laws_calls.proofs.Works.{is_look, work_stays}
 use Rattle.dsql_laws_others.proofs.Closers.{no_house}
 
@@ -117,7 +112,7 @@ hands_itself H c t own x = by (work H (number_of own)) (rows_hand_out H (number_
     by w h k = absurd cc
 
 unbegun : (H : List Event) (c t : ℕ) (own : Owner) → LiveAt H c t own → is_begun H (number_of own) ≡ true → ⊥
-unbegun H c t own x begun = true_false (starts (work H (number_of own))) (begun_starts H (number_of own) x.lawful begun) (rows_start_nothing H (number_of own) (live_some (rows_by H (number_of own)) x.lives))
+unbegun H c t own x begun = true_false (begins (work H (number_of own))) (begun_begins H (number_of own) x.lawful begun) (rows_begin_nothing H (number_of own) (live_some (rows_by H (number_of own)) x.lives))
 
 abbrev Holds : List Event → Type 0
 Holds H = (c t : ℕ) (own : Owner) → place H c ≡ Some (Lent t own) → is_call own ≡ true → are_live H (number_of own) ≡ true → is_holding (step (heard_in H c t)) ≡ true
@@ -178,22 +173,9 @@ none_wanted q s = s
 abbrev Comes : List Event → Type 0
 Comes H = (e : Entry) (own : Owner) → may_come H e ≡ true → place H e.conn ≡ Some (Lent e.tenure own) → is_call own ≡ true → are_live H (number_of own) ≡ true → Fetches H e (number_of own)
 
--- What the layer would send on a call's connection is what that call left.
-call_tidied : (H : List Event) (own : Owner) (q : DriverCall) → is_call own ≡ true → is_due (tidying_for H own) q ≡ true → is_due (tidying H (number_of own)) q ≡ true
-call_tidied H (Call n) q call h = alone (tidying H n) h
-  where
-    alone : (o : Option DriverCall) → is_due (or_else o None) q ≡ true → is_due o q ≡ true
-    alone None x = x
-    alone (Some due) x = x
-call_tidied H own q call h = absurd cc
-
-pin_is_no_call : (own : Owner) → is_pin own ≡ true → is_call own ≡ true → ⊥
-pin_is_no_call (Call n) on call = cc
-pin_is_no_call own on call = cc
-
 -- An entry that is due for live rows is a fetch.
 due_fetches : (H : List Event) (e : Entry) (own : Owner) → Holds H → (x : LiveAt H e.conn e.tenure own) → (d : DueNow H e) → d.owner ≡ own → may_come H e ≡ true → Fetches H e (number_of own)
-due_fetches H e own holds x d same comes = whose (e.call_no == 0) refl (ap (λ o. is_due (due_from H e.call_no o) e.call) (sym same) ∙ d.due)
+due_fetches H e own holds x d same comes = whose (e.call_no == 0) refl (ap (λ o. is_due (due_from H e.call_no (number_of o)) e.call) (sym same) ∙ d.due)
   where
     i : ℕ
     i = number_of own
@@ -224,18 +206,6 @@ due_fetches H e own holds x d same comes = whose (e.call_no == 0) refl (ap (λ o
         let n = inside H x.lawful in
         unbegun H e.conn e.tenure own x (ap (is_begun H) (at ∙ inside_uses H e.call_no k s) ∙ n.coming e k comes s)
 
-    -- No call on a pin uses this connection.
-    pinned : {A : Type 0} (j p : ℕ) → pin_of (work H j) ≡ p → number_of own ≡ p → A
-    pinned j p on number = absurd (pin_is_no_call own (pin_owner H e.conn e.tenure own j x.lawful x.lent (on ∙ sym number)) x.call)
-
-    on_pin : {A : Type 0} (p : ℕ) → (e.call_no == 0) ≡ false → pin_of (work H e.call_no) ≡ p → borrower H e.call_no ≡ p → is_due (line_of H e.call_no wishes.Nothing) e.call ≡ true → A
-    on_pin p some on uses h = pinned e.call_no p on (line_at_its H e.call_no e.conn e.tenure own wishes.Nothing e.call (d.site some) x.lent h ∙ uses)
-
-    lent_pin : {A : Type 0} (p : ℕ) → (e.call_no == 0) ≡ false → pin_of (work H e.call_no) ≡ p → borrower H e.call_no ≡ p → is_lent_for p (place H (home H p)) ≡ true → A
-    lent_pin p some on uses lent =
-        let at : home H p ≡ e.conn = ap (home H) (sym uses) ∙ d.site some in
-        pinned e.call_no p on (same_number (number_of own) p (sym (ap (λ c. is_lent_for p (place H c)) at ∙ ap (is_lent_for p) x.lent) ∙ lent))
-
     inside_line : (b : Bool) (o : Option DriverCall) → is_due (cond b o None) e.call ≡ true → is_due o e.call ≡ true
     inside_line true o h = h
     inside_line false o h = absurd (not_due e.call h)
@@ -260,8 +230,6 @@ due_fetches H e own holds x d same comes = whose (e.call_no == 0) refl (ap (λ o
             of (Statement (Held k) (HandOut label)) is y uses =
                 let its : k ≡ number_of own = sym (rw is refl) ∙ uses in
                 absurd (unbegun H e.conn e.tenure own x (rows_begun H j (number_of own) x.lawful made (ap (hands_out_in (number_of own)) is ∙ (ap (λ z. k == z) (sym its) ∙ same_itself k))))
-            of (Statement (Pinned p) (HandOut label)) is y uses = pinned j p (ap pin_of is) (sym uses ∙ rw is refl)
-            of (Statement (Within p k) (HandOut label)) is y uses = pinned j p (ap pin_of is) (sym uses ∙ rw is refl)
             of v is y uses = absurd cc
 
         lives_on : (w : Wish) → is_due (line_of H j w) e.call ≡ true → ender H j ≡ 0
@@ -297,20 +265,12 @@ due_fetches H e own holds x d same comes = whose (e.call_no == 0) refl (ap (λ o
     of_call some (Close j) is h = rows j some (inr is) h
     of_call some (End k) is h = absurd (ends k some is (tx_ender H k == e.call_no) h)
     of_call some Look is h = absurd (not_due e.call h)
-    of_call some (Statement (Pinned p) task) is h = on_pin p some (ap pin_of is) (rw is refl) (inside_line (sends_on H e.call_no p) (line_of H e.call_no wishes.Nothing) h)
-    of_call some (Statement (Within p k) task) is h = on_pin p some (ap pin_of is) (rw is refl) (inside_line (sends_in H e.call_no k) (line_of H e.call_no wishes.Nothing) h)
-    of_call some (BeginOn p label level read_only) is h = on_pin p some (ap pin_of is) (rw is refl) (inside_line (sends_on H e.call_no p) (line_of H e.call_no wishes.Nothing) h)
-    of_call some (PingOn p) is h = on_pin p some (ap pin_of is) (rw is refl) (inside_line (sends_on H e.call_no p) (line_of H e.call_no wishes.Nothing) h)
-    of_call some (EndWithin p k) is h =
-        lent_pin p some (ap pin_of is) (rw is refl) (within_lent H p k (some_due (ending_within H p k) e.call (inside_line (tx_ender H k == e.call_no) (ending_within H p k) h)))
-    of_call some (Unpin p) is h =
-        lent_pin p some (ap pin_of is) (rw is refl) (unpinning_lent H p (some_due (unpinning H p) e.call (inside_line (pin_ender H p == e.call_no) (unpinning H p) h)))
     of_call some _ is h = absurd (itself some (ap asks is) h)
 
-    whose : (b : Bool) → (e.call_no == 0) ≡ b → is_due (due_from H e.call_no own) e.call ≡ true → Fetches H e (number_of own)
-    whose true layer h = absurd (tidies (call_tidied H own e.call x.call (ap (λ b. is_due (cond b (tidying_for H own) (due_for H e.call_no)) e.call) (sym layer) ∙ h)))
+    whose : (b : Bool) → (e.call_no == 0) ≡ b → is_due (due_from H e.call_no (number_of own)) e.call ≡ true → Fetches H e (number_of own)
+    whose true layer h = absurd (tidies (ap (λ b. is_due (cond b (tidying H (number_of own)) (due_for H e.call_no)) e.call) (sym layer) ∙ h))
     whose false some h =
-        let o = due_of H e.call_no e.call (ap (λ b. is_due (cond b (tidying_for H own) (due_for H e.call_no)) e.call) (sym some) ∙ h) in
+        let o = due_of H e.call_no e.call (ap (λ b. is_due (cond b (tidying H (number_of own)) (due_for H e.call_no)) e.call) (sym some) ∙ h) in
         of_call some (work H e.call_no) refl o.due
 
 -- The same at each event.
@@ -430,7 +390,8 @@ came_before : (H : List Event) (x : Event) (e : Entry) (own : Owner) → Lawful 
 came_before H x e own l comes on may at call lives =
     let s = sound H l.0 in
     let u = s.coming e may in
-    let after = remains_lent H x e.conn e.tenure u.owner l.0 l.1 u.lent (inr (inr (unparted x e on))) in
+    let used = why_used H e.conn e.tenure u.owner e.call_no l.0 u.lent u.why in
+    let after = stays_lent H x e.conn e.tenure u.owner l.0 l.1 u.lent used in
     let same : u.owner ≡ own = one (sym after ∙ at) in
     let before : place H e.conn ≡ Some (Lent e.tenure own) = u.lent ∙ ap (λ o. Some (Lent e.tenure o)) same in
     fetches_still H x e (number_of own) (comes e own may before call (was x on l before lives))
@@ -492,12 +453,11 @@ live_closes H c t own l at lives = by (is_call own) refl
 
     by : (b : Bool) → is_call own ≡ b → is_some (line_of H (number_of own) wishes.Close) ≡ true
     by true call = closed (record { lawful = l; lent = at; call = call; lives = lives })
-    by false other = absurd (true_false (hands_out (work H (number_of own))) (rows_hand_out H (number_of own) (live_some (rows_by H (number_of own)) lives)) (hands_none own (owner_is_of H c t own l at) other))
+    by false other = absurd (true_false (begins (work H (number_of own))) (begins_it own (owner_is_of H c t own l at) other) (rows_begin_nothing H (number_of own) (live_some (rows_by H (number_of own)) lives)))
       where
-        hands_none : (o : Owner) → (is_house o ≡ false) × (o ≡ owner_of H (number_of own)) → is_call o ≡ false → hands_out (work H (number_of own)) ≡ false
-        hands_none o its k = of (work H (number_of own)) (sym (ap is_call its.1) ∙ k)
+        begins_it : (o : Owner) → (is_house o ≡ false) × (o ≡ owner_of H (number_of own)) → is_call o ≡ false → begins (work H (number_of own)) ≡ true
+        begins_it o its k = of (work H (number_of own)) (sym (ap is_call its.1) ∙ k)
           where
-            of : (w : Work) → is_call (owner_as w (number_of own)) ≡ false → hands_out w ≡ false
+            of : (w : Work) → is_call (owner_as w (number_of own)) ≡ false → begins w ≡ true
             of (Begin label level read_only) z = refl
-            of (Pin label) z = refl
             of w z = absurd cc

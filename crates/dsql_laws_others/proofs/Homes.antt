@@ -1,6 +1,6 @@
 -- If a move leaves a call's connection as it is, or the connection isn't lent before or after, the move leaves
 -- each line. The argument compares the places of that connection.
-use Rattle.std.proofs.Common.{◌≡◌, ℕ, ◌==◌, Bool, true, false, cond, List, ◌∷◌, Option, Some, None, is_some, refl, sym, ap, ◌∙◌, ◌⊎◌, inl, inr}
+use Rattle.std.proofs.Common.{◌≡◌, ℕ, Bool, true, false, cond, List, ◌∷◌, Option, Some, None, is_some, refl, sym, ap, ◌∙◌, ◌⊎◌, inl, inr}
 use Rattle.dsql_laws_calls.specs.course.declared.course.Wish.{Wish}
 use Rattle.dsql_laws_calls.specs.pool.declared.conn.Place.{Place}
 use Rattle.dsql_laws_calls.specs.pool.declared.conn.Place.TheVariants.{Lent}
@@ -11,26 +11,21 @@ use Rattle.dsql_laws_calls.specs.history.declared.record.Try.{Try}
 use Rattle.dsql_laws_calls.specs.history.declared.event.Event.{Event}
 use Rattle.dsql_laws_calls.specs.history.declared.event.Event.TheVariants.{Pool}
 use Rattle.dsql_laws_calls.specs.history.declared.work.Scope.{Scope}
-use Rattle.dsql_laws_calls.specs.history.declared.work.Scope.TheVariants.{Db, Held, Pinned, Within}
+use Rattle.dsql_laws_calls.specs.history.declared.work.Scope.TheVariants.{Db, Held}
 use Rattle.dsql_laws_calls.specs.history.declared.work.Work.{Work}
-use Rattle.dsql_laws_calls.specs.history.declared.work.Work.TheVariants.{Statement, BeginOn, End, EndWithin, Pin, Unpin, PingOn, Fetch, Close, Look}
-use Rattle.dsql_laws_calls.specs.history.Readers.Calls.{has_begun_to_send, told_as_pinned, told_by_tries, told_by_scope, told_of_work, told_by_others, done_with, unpinned_with}
-use Rattle.dsql_laws_calls.specs.history.declared.reply.Reply.{Reply}
-use Rattle.dsql_laws_calls.specs.history.declared.reply.Reply.TheVariants as reply
-use Rattle.dsql_laws_calls.specs.history.Readers.Pins.{pin_end, pin_ender}
-use Rattle.dsql_laws_calls.specs.history.Rules.Pinned.{unpinning}
+use Rattle.dsql_laws_calls.specs.history.declared.work.Work.TheVariants.{Statement, Begin, End, Ping, Fetch, Close, Look}
+use Rattle.dsql_laws_calls.specs.history.Readers.Calls.{has_begun_to_send, told_by_tries, told_by_scope, told_of_work, told_by_others, done_with}
 use Rattle.dsql_laws_calls.specs.history.Readers.Transactions.{tx_end}
 use Rattle.dsql_laws_calls.specs.history.Readers.Journals.{journal}
 use Rattle.dsql_laws_calls.specs.history.Readers.Lines.{has_sent}
 use Rattle.dsql_laws_calls.specs.history.Readers.Pool.{place, home}
 use Rattle.dsql_laws_calls.specs.history.Readers.Tries.{tries}
 use Rattle.dsql_laws_calls.specs.history.Readers.Works.{work, borrower}
-use Rattle.dsql_laws_calls.specs.history.Rules.Ending.{ending_at, ending_with, ending, ending_within}
+use Rattle.dsql_laws_calls.specs.history.Rules.Ending.{ending_at, ending_with, ending}
 use Rattle.dsql_laws_calls.specs.history.Rules.Line.{due_for, is_used}
 use Rattle.dsql_laws_calls.specs.history.Rules.Sent.{is_reset_due, line_at, line_of}
 use Rattle.dsql_laws_calls.proofs.Enders.{same_ender}
 use Rattle.dsql_laws_others.proofs.Alike.{Concerns, Alike, due_alike, used_alike, line_asked, ends_alike, closings_alike, same_tx_ender}
-use Rattle.dsql_laws_others.proofs.Pins.{HomeAs, PinsAlike, within_as, unpins_as}
 
 pub record HomeStays (H K : List Event) (n : ℕ) : Type 0 where
   pub homes : home K n ≡ home H n
@@ -83,10 +78,8 @@ ends_stay H move stays k = by (stays k)
 
 -- A move leaves a call alike if it leaves the ends and the lines that concern the call, and what the call has sent.
 pub move_alike : (H : List Event) (move : Move) (m : ℕ) → ((k : ℕ) → ending (Pool move ∷ H) k ≡ ending H k) → ((n : ℕ) (w : Wish) → Concerns H m n → line_of (Pool move ∷ H) n w ≡ line_of H n w)
-    → (has_begun_to_send (Pool move ∷ H) m ≡ has_begun_to_send H m) ⊎ ((n : ℕ) (w : Wish) → borrower H n ≡ borrower H m → line_of H n w ≡ None)
-    → ((p k : ℕ) → work H m ≡ EndWithin p k → ending_within (Pool move ∷ H) p k ≡ ending_within H p k)
-    → ((p : ℕ) → work H m ≡ Unpin p → cond (pin_ender (Pool move ∷ H) p == m) (unpinning (Pool move ∷ H) p) None ≡ cond (pin_ender H p == m) (unpinning H p) None) → Alike H (Pool move ∷ H) m
-move_alike H move m endings lines sent within unpins = record {
+    → (has_begun_to_send (Pool move ∷ H) m ≡ has_begun_to_send H m) ⊎ ((n : ℕ) (w : Wish) → borrower H n ≡ borrower H m → line_of H n w ≡ None) → Alike H (Pool move ∷ H) m
+move_alike H move m endings lines sent = record {
   unfinished = refl;
   its_work = refl;
   live = λ j. refl;
@@ -97,30 +90,11 @@ move_alike H move m endings lines sent within unpins = record {
   endings = endings;
   lines = lines;
   sent = sent;
-  pinned = λ p its unsent. refl;
   decided = refl;
-  within = within;
-  unpins = unpins;
 }
-
-pub pins_stay : (H : List Event) (move : Move) → HomesStay H (Pool move ∷ H) → PinsAlike H (Pool move ∷ H)
-pins_stay H move stays = record {
-  same_works = refl;
-  rows = λ j. refl;
-  txs = λ k. refl;
-  ends = λ p. refl;
-  can = refl;
-  lines = lines_stay H move stays;
-  homes = λ p. by p (stays p);
-}
-  where
-    by : (p : ℕ) → HomeStays H (Pool move ∷ H) p ⊎ HomeUnlent H (Pool move ∷ H) p → HomeAs H (Pool move ∷ H) p
-    by p (inl s) = inl (s.homes, s.places, refl)
-    by p (inr u) = inr (u.before, u.after)
 
 pub moved_alike : (H : List Event) (move : Move) (m : ℕ) → HomesStay H (Pool move ∷ H) → Alike H (Pool move ∷ H) m
 moved_alike H move m stays = move_alike H move m (ends_stay H move stays) (λ j w its. lines_stay H move stays j w) (sent (stays (borrower H m)))
-    (λ p k its. within_as H (Pool move ∷ H) (pins_stay H move stays) p k) (λ p its. unpins_as H (Pool move) (pins_stay H move stays) m p)
   where
     K : List Event
     K = Pool move ∷ H
@@ -141,35 +115,25 @@ used_moved H move n stays = used_alike H (Pool move ∷ H) n refl refl (ends_sta
 tried_alike : (H : List Event) (move : Move) (w : Work) (ts us : List Try) → us ≡ ts → told_by_tries (Pool move ∷ H) w us ≡ told_by_tries H w ts
 tried_alike H move w ts us same = ap (told_by_tries H w) same
 
-pub told_unsent : (now was : Bool) (o : Option Reply) → (now ≡ true → was ≡ true) → is_some (cond was None o) ≡ true → is_some (cond now None o) ≡ true
-told_unsent now true o f x = absurd cc
-told_unsent true false o f x = let clash : false ≡ true = f refl in absurd cc
-told_unsent false false o f x = x
-
-pub told_gone : (a b : Bool) → (a ≡ true → b ≡ true) → is_some (cond a (Some reply.Ok) None) ≡ true → is_some (cond b (Some reply.Ok) None) ≡ true
-told_gone true b f x = ap (λ c. is_some (cond {A = Option Reply} c (Some reply.Ok) None)) (f refl)
-told_gone false b f x = absurd cc
-
 told_inside : (H : List Event) (move : Move) (m : ℕ) (w : Work) (s : Scope) → tries (Pool move ∷ H) m ≡ tries H m → (has_begun_to_send (Pool move ∷ H) m ≡ true → has_begun_to_send H m ≡ true)
     → is_some (told_by_scope H m w s) ≡ true → is_some (told_by_scope (Pool move ∷ H) m w s) ≡ true
 told_inside H move m w Db same fewer h = ap (λ o. is_some o) (tried_alike H move w (tries H m) (tries (Pool move ∷ H) m) same) ∙ h
-told_inside H move m w (Held k) same fewer h = told_unsent (has_begun_to_send (Pool move ∷ H) m) (has_begun_to_send H m) (done_with (tx_end H k)) fewer h
-told_inside H move m w (Within p k) same fewer h = told_unsent (has_begun_to_send (Pool move ∷ H) m) (has_begun_to_send H m) (done_with (tx_end H k)) fewer h
-told_inside H move m w (Pinned p) same fewer h = told_unsent (has_begun_to_send (Pool move ∷ H) m) (has_begun_to_send H m) (unpinned_with (pin_end H p)) fewer h
+told_inside H move m w (Held k) same fewer h = by (has_begun_to_send (Pool move ∷ H) m) (has_begun_to_send H m) fewer h
+  where
+    by : (now was : Bool) → (now ≡ true → was ≡ true) → is_some (cond was None (done_with (tx_end H k))) ≡ true → is_some (cond now None (done_with (tx_end H k))) ≡ true
+    by now true f x = absurd cc
+    by true false f x = let clash : false ≡ true = f refl in absurd cc
+    by false false f x = x
 
 pub told_still : (H : List Event) (move : Move) (m : ℕ) → tries (Pool move ∷ H) m ≡ tries H m → (has_begun_to_send (Pool move ∷ H) m ≡ true → has_begun_to_send H m ≡ true)
-    → ((p : ℕ) → work H m ≡ Unpin p → (home H p == 0) ≡ true → (home (Pool move ∷ H) p == 0) ≡ true) → is_some (told_by_others H m) ≡ true → is_some (told_by_others (Pool move ∷ H) m) ≡ true
-told_still H move m same fewer gone h = by (work H m) refl h
+    → is_some (told_by_others H m) ≡ true → is_some (told_by_others (Pool move ∷ H) m) ≡ true
+told_still H move m same fewer h = by (work H m) h
   where
-    by : (w : Work) → work H m ≡ w → is_some (told_of_work H m w) ≡ true → is_some (told_of_work (Pool move ∷ H) m w) ≡ true
-    by (Fetch k) is x = x
-    by (Close k) is x = x
-    by (End k) is x = absurd cc
-    by (EndWithin p k) is x = absurd cc
-    by Look is x = absurd cc
-    by (Pin label) is x = ap (λ ts. is_some (told_as_pinned H (Pin label) ts)) same ∙ x
-    by (Unpin p) is x = told_gone (home H p == 0) (home (Pool move ∷ H) p == 0) (gone p is) x
-    by (Statement s task) is x = told_inside H move m (Statement s task) s same fewer x
-    by (BeginOn p label level read_only) is x = told_inside H move m (BeginOn p label level read_only) (Pinned p) same fewer x
-    by (PingOn p) is x = told_inside H move m (PingOn p) (Pinned p) same fewer x
-    by w is x = told_inside H move m w Db same fewer x
+    by : (w : Work) → is_some (told_of_work H m w) ≡ true → is_some (told_of_work (Pool move ∷ H) m w) ≡ true
+    by (Fetch k) x = x
+    by (Close k) x = x
+    by (End k) x = absurd cc
+    by Look x = absurd cc
+    by (Statement s task) x = told_inside H move m (Statement s task) s same fewer x
+    by (Begin label level read_only) x = told_inside H move m (Begin label level read_only) Db same fewer x
+    by Ping x = told_inside H move m Ping Db same fewer x

@@ -1,5 +1,5 @@
 -- A call that is lent a connection sends there at once, because its line begins with a driver call.
-use Rattle.std.proofs.Common.{◌≡◌, ◌≢◌, ℕ, ◌==◌, Bool, true, false, not, ◌||◌, cond, List, [], ◌∷◌, Option, Some, None, is_some, refl, sym, ap, ◌∙◌, ◌&&◌, is_none, ◌⊎◌, inl, inr}
+use Rattle.std.proofs.Common.{◌≡◌, ◌≢◌, ℕ, ◌==◌, Bool, true, false, not, ◌||◌, cond, List, [], ◌∷◌, Option, Some, None, is_some, refl, sym, ap, ◌∙◌, ◌&&◌, is_none}
 use Rattle.std.proofs.lemmas.Bool.{or_right}
 use Rattle.dsql_laws_calls.specs.wait.declared.request.Request.{Request}
 use Rattle.dsql_laws_calls.specs.wait.Requests.{waits, without_call}
@@ -17,9 +17,7 @@ use Rattle.dsql_laws_calls.specs.course.declared.course.Wish.TheVariants as wish
 use Rattle.dsql_laws_calls.specs.course.Made.{has_fast_way}
 use Rattle.dsql_laws_calls.specs.journal.declared.entry.Entry.{Entry}
 use Rattle.dsql_laws_calls.specs.journal.declared.entry.Owner.{Owner}
-use Rattle.dsql_laws_calls.specs.journal.declared.entry.Owner.TheVariants as owners
-use Rattle.dsql_laws_calls.specs.journal.Kinds.{is_call, is_pin, number_of}
-use Rattle.dsql_laws_calls.specs.pool.Calls.{wants}
+use Rattle.dsql_laws_calls.specs.journal.Kinds.{is_call}
 use Rattle.dsql_laws_calls.specs.rows.declared.rows.Rows.{Rows}
 use Rattle.dsql_laws_calls.specs.rows.OpenRows.{is_live}
 use Rattle.dsql_laws_calls.specs.pool.declared.conn.Place.TheVariants.{Lent}
@@ -34,34 +32,31 @@ use Rattle.dsql_laws_calls.specs.history.declared.record.Try.{Try}
 use Rattle.dsql_laws_calls.specs.history.declared.record.Try.TheVariants.{Served}
 use Rattle.dsql_laws_calls.specs.history.Readers.HandedOut.{live, rows_by, are_live}
 use Rattle.dsql_laws_calls.specs.history.Readers.Pool.{is_home, or_none, smallest, pool, place, home}
-use Rattle.dsql_laws_calls.specs.history.Readers.Tries.{asks_again, was_served, with_try, tries}
+use Rattle.dsql_laws_calls.specs.history.Readers.Tries.{asks_again, with_try, tries}
 use Rattle.dsql_laws_calls.proofs.laws.Truths.{or_first}
 use Rattle.dsql_laws_calls.proofs.laws.Places.{neither, none_opens}
 use Rattle.dsql_laws_calls.proofs.laws.Wanted.{none_wanted}
 use Rattle.dsql_laws_calls.proofs.Cases.{true_false}
 use Rattle.dsql_laws_calls.proofs.Found.{changed_place}
-use Rattle.dsql_laws_others.proofs.Answered.{asks_no_close, rests_there, replies_first}
+use Rattle.dsql_laws_others.proofs.Answered.{rests_there, replies_first}
 use Rattle.dsql_laws_calls.specs.history.declared.event.Event.{Event}
 use Rattle.dsql_laws_calls.specs.history.declared.event.Event.TheVariants.{Pool}
 use Rattle.dsql_laws_calls.specs.history.declared.work.Scope.TheVariants.{Db}
 use Rattle.dsql_laws_calls.specs.history.declared.work.Work.{Work}
 use Rattle.dsql_laws_calls.specs.history.declared.work.Task.TheVariants.{Execute, ReadOne, HandOut}
-use Rattle.dsql_laws_calls.specs.history.declared.work.Work.TheVariants.{Statement, Begin, Pin, Ping, PingOn}
-use Rattle.dsql_laws_calls.specs.history.Readers.Calls.{site, decided, told_as_pinned, told_by_others, told_of_work, asks_nothing, rests, rests_with}
+use Rattle.dsql_laws_calls.specs.history.declared.work.Work.TheVariants.{Statement, Begin, Ping}
+use Rattle.dsql_laws_calls.specs.history.Readers.Calls.{site, decided, told_by_others, asks_nothing, rests, rests_with}
 use Rattle.dsql_laws_calls.specs.history.Readers.Course.{caps}
 use Rattle.dsql_laws_calls.specs.history.Readers.Journals.{heard_in}
 use Rattle.dsql_laws_calls.specs.history.Readers.Lines.{line_in}
 use Rattle.dsql_laws_calls.specs.history.Readers.Transactions.{is_begun, goes_on}
 use Rattle.dsql_laws_calls.specs.history.Readers.Unfinished.{is_unfinished}
-use Rattle.dsql_laws_calls.specs.history.Readers.Works.{work, aim_of, owner_as, scope, asks}
-use Rattle.dsql_laws_calls.specs.history.Readers.Pins.{pin_goes_on}
-use Rattle.dsql_laws_calls.specs.history.Rules.Asking.{may_ask}
-use Rattle.dsql_laws_calls.specs.history.Rules.Pinned.{kept_by, unpinning}
+use Rattle.dsql_laws_calls.specs.history.Readers.Works.{work, aim_of, scope, asks}
 use Rattle.dsql_laws_calls.specs.history.Rules.Ending.{ending}
-use Rattle.dsql_laws_calls.specs.history.Rules.Line.{due_in, due_for, holder, is_perhaps_used, rest_with, rest, is_used}
+use Rattle.dsql_laws_calls.specs.history.Rules.Line.{due_in, due_for, rest_with, rest, is_used}
 use Rattle.dsql_laws_calls.specs.history.Rules.Sent.{Sender, sender, line_for, line_with, line_of}
-use Rattle.dsql_laws_calls.specs.history.Rules.Settled.{is_in_use, is_kept, keeps_pin}
-use Rattle.dsql_laws_calls.specs.history.Rules.Stands.{lingers_on, is_own_step, is_settled_for, has_to_reply, stand}
+use Rattle.dsql_laws_calls.specs.history.Rules.Settled.{is_kept}
+use Rattle.dsql_laws_calls.specs.history.Rules.Stands.{is_own_step, is_settled_for, has_to_reply, stand}
 use Rattle.dsql_laws_calls.specs.history.Legal.{Lawful}
 use Rattle.dsql_laws_calls.proofs.laws.Standing.{stands_sending, stands_waiting}
 use Rattle.dsql_laws_calls.proofs.laws.Tried.{lends_to}
@@ -69,10 +64,7 @@ use Rattle.dsql_laws_calls.proofs.BeginningsAt.{beginnings}
 use Rattle.dsql_laws_calls.proofs.Beginnings.{lent_once_begun}
 use Rattle.dsql_laws_calls.proofs.Lines.{line_here}
 use Rattle.dsql_laws_calls.proofs.Own.{asks_own, due_line}
-use Rattle.dsql_laws_calls.proofs.Owners.{at_home, lent_asks, lent_number, owner_is_of}
-use Rattle.dsql_laws_calls.proofs.Idle.{lends_from}
-use Rattle.dsql_laws_calls.proofs.Scopes.{makes_pin}
-use Rattle.dsql_laws_calls.proofs.Told.{asks_undecided, wants_undecided}
+use Rattle.dsql_laws_calls.proofs.Owners.{at_home, lent_asks, lent_number}
 use Rattle.dsql_laws_calls.proofs.Tenures.{fresh_lending, there_from}
 use Rattle.dsql_laws_calls.proofs.Untried.{moves_of, lends_unwanting}
 use Rattle.dsql_laws_others.specs.Told.{where_told}
@@ -136,46 +128,44 @@ first_due can asked w answered = rw (body_before can asked w [] refl, first_of c
     by_aim aims.HandOut h = by_fast (has_fast_way courses.Query can)
     by_aim aims.Ping h = by_ping can.pinger can.validator refl h
 
--- If a call doesn't rest with what it was lent, something is sent to the driver for it, except for a pin without a Reset.
+-- If a call doesn't rest with what it was lent, something is sent to the driver for it.
 
-answered_unless : (can : Caps) (it : Work) (ts : List Try) → asks it ≡ true → asks_nothing can it (Served ∷ ts) ≡ false → is_answered can (aim_of it) ≡ true
-answered_unless can Ping ts own h = by (can.pinger || can.validator) h
+answered_unless : (can : Caps) (it : Work) (ts : List Try) → asks_nothing can it (Served ∷ ts) ≡ false → is_answered can (aim_of it) ≡ true
+answered_unless can Ping ts h = by (can.pinger || can.validator) h
   where
     by : (b : Bool) → not b ≡ false → b ≡ true
     by true k = refl
     by false k = absurd cc
-answered_unless can (Statement s Execute) ts own h = refl
-answered_unless can (Statement s (ReadOne dests)) ts own h = refl
-answered_unless can (Statement s (HandOut label)) ts own h = refl
-answered_unless can (PingOn p) ts own h = absurd cc
-answered_unless can it ts own h = refl
+answered_unless can (Statement s Execute) ts h = refl
+answered_unless can (Statement s (ReadOne dests)) ts h = refl
+answered_unless can (Statement s (HandOut label)) ts h = refl
+answered_unless can it ts h = refl
 
 newest_lent : (H : List Event) (c t : ℕ) (own : Owner) (n : ℕ) → tries (lends H c t own n) n ≡ Served ∷ tries H n
 newest_lent H c t own n = ap (λ b. with_try b Served (tries H n)) (same_itself n)
 
-lent_answered : (H : List Event) (c t : ℕ) (own : Owner) (n : ℕ) → Lawful (lends H c t own n) → is_unfinished H n ≡ true → rests (lends H c t own n) n ≡ false → is_answered (caps H) (aim_of (work H n)) ≡ true
-lent_answered H c t own n l u h =
-    answered_unless (caps H) (work H n) (tries H n) (lent_asker H c t own n l)
+lent_answered : (H : List Event) (c t : ℕ) (own : Owner) (n : ℕ) → is_unfinished H n ≡ true → rests (lends H c t own n) n ≡ false → is_answered (caps H) (aim_of (work H n)) ≡ true
+lent_answered H c t own n u h =
+    answered_unless (caps H) (work H n) (tries H n)
     (sym (ap (λ (b : Bool). b && asks_nothing (caps H) (work H n) (tries (lends H c t own n) n)) u ∙ ap (asks_nothing (caps H) (work H n)) (newest_lent H c t own n)) ∙ h)
 
 -- The first driver call of the line.
-sends_with : (S : Sender) → asks S.work ≡ true → makes_pin S.work ≡ false → is_answered S.can S.asked.aim ≡ true → is_some (line_with S []) ≡ true
-sends_with S own no_pin answered = by S.work own no_pin
+sends_with : (S : Sender) → asks S.work ≡ true → is_answered S.can S.asked.aim ≡ true → is_some (line_with S []) ≡ true
+sends_with S own answered = by S.work own
   where
     plainly : (b : Bool) → is_some (line_after S.can b S.asked S.wish []) ≡ true
     plainly true = refl
     plainly false = first_due S.can S.asked S.wish answered
 
-    by : (v : Work) → asks v ≡ true → makes_pin v ≡ false → is_some (line_for v (scope v) S []) ≡ true
-    by (Begin label level read_only) h k = either S.reset_due
+    by : (v : Work) → asks v ≡ true → is_some (line_for v (scope v) S []) ≡ true
+    by (Begin label level read_only) h = either S.reset_due
       where
         either : (b : Bool) → is_some (cond b (Some Reset) (Some (calls.Begin level read_only))) ≡ true
         either true = refl
         either false = refl
-    by (Statement Db task) h k = plainly S.reset_due
-    by Ping h k = plainly S.reset_due
-    by (Pin label) h k = absurd cc
-    by v h k = absurd cc
+    by (Statement Db task) h = plainly S.reset_due
+    by Ping h = plainly S.reset_due
+    by v h = absurd cc
 
 empty_line : (own : Owner) (n : ℕ) (L : List Entry) → L ≡ [] → line_in own n L ≡ []
 empty_line own n L none = ap (line_in own n) none ∙ by (is_call own)
@@ -184,19 +174,19 @@ empty_line own n L none = ap (line_in own n) none ∙ by (is_call own)
     by true = refl
     by false = refl
 
-sends_first : (H : List Event) (c t : ℕ) (own : Owner) (n : ℕ) (w : Wish) → Lawful (lends H c t own n) → makes_pin (work H n) ≡ false → is_answered (caps H) (aim_of (work H n)) ≡ true → is_some (line_of (lends H c t own n) n w) ≡ true
-sends_first H c t own n w l no_pin answered =
+sends_first : (H : List Event) (c t : ℕ) (own : Owner) (n : ℕ) (w : Wish) → Lawful (lends H c t own n) → is_answered (caps H) (aim_of (work H n)) ≡ true → is_some (line_of (lends H c t own n) n w) ≡ true
+sends_first H c t own n w l answered =
     let K = lends H c t own n in
     let asker = lent_asker H c t own n l in
     ap (λ d. is_some d) (line_here K c t own n w l (lent_there H c t own n l) (asks_own K n asker ∙ lends_to H c t own n l.1))
     ∙ (ap (λ L. is_some (line_with (sender K n c w) L)) (empty_line own n (heard_in H c t) (fresh_lending H c t own n l.0 l.1))
-    ∙ sends_with (sender K n c w) asker no_pin answered)
+    ∙ sends_with (sender K n c w) asker answered)
 
-pub due_lent : (H : List Event) (c t : ℕ) (own : Owner) (n : ℕ) → Lawful (lends H c t own n) → is_unfinished H n ≡ true → rests (lends H c t own n) n ≡ false → makes_pin (work H n) ≡ false → is_some (due_for (lends H c t own n) n) ≡ true
-due_lent H c t own n l u restless no_pin =
+pub due_lent : (H : List Event) (c t : ℕ) (own : Owner) (n : ℕ) → Lawful (lends H c t own n) → is_unfinished H n ≡ true → rests (lends H c t own n) n ≡ false → is_some (due_for (lends H c t own n) n) ≡ true
+due_lent H c t own n l u restless =
     let K = lends H c t own n in
     ap (λ (b : Bool). is_some (cond b (due_in K n (work H n)) None)) u
-    ∙ (ap (λ d. is_some d) (due_line K n (work H n) (lent_asker H c t own n l)) ∙ sends_first H c t own n wishes.Nothing l no_pin (lent_answered H c t own n l u restless))
+    ∙ (ap (λ d. is_some d) (due_line K n (work H n) (lent_asker H c t own n l)) ∙ sends_first H c t own n wishes.Nothing l (lent_answered H c t own n u restless))
 
 -- The call has begun no transaction yet.
 pub lent_unbegun : (H : List Event) (c t : ℕ) (own : Owner) (n : ℕ) → Lawful (lends H c t own n) → is_begun H n ≡ false
@@ -206,14 +196,14 @@ lent_unbegun H c t own n l = by (is_begun H n) refl
     by false is = refl
     by true is = absurd (lent_once_begun H c t own n l.0 l.1 (beginnings H l.0) (ap (is_begun H) (sym (lends_to H c t own n l.1)) ∙ is))
 
-used_lent : (H : List Event) (c t : ℕ) (own : Owner) (n : ℕ) → Lawful (lends H c t own n) → is_unfinished H n ≡ true → rests (lends H c t own n) n ≡ false → makes_pin (work H n) ≡ false → is_used (lends H c t own n) n ≡ true
-used_lent H c t own n l u restless no_pin = or_right (goes_on K n) (are_live K n || is_some (rest K n)) (by (rows_by H n))
+used_lent : (H : List Event) (c t : ℕ) (own : Owner) (n : ℕ) → Lawful (lends H c t own n) → is_unfinished H n ≡ true → rests (lends H c t own n) n ≡ false → is_used (lends H c t own n) n ≡ true
+used_lent H c t own n l u restless = or_right (goes_on K n) (are_live K n || is_some (rest K n)) (by (rows_by H n))
   where
     K : List Event
     K = lends H c t own n
 
     sends : (w : Wish) → is_some (line_of K n w) ≡ true
-    sends w = sends_first H c t own n w l no_pin (lent_answered H c t own n l u restless)
+    sends w = sends_first H c t own n w l (lent_answered H c t own n u restless)
 
     rested : (o : Option Rows) → is_some (rest_with K n o) ≡ true → is_some (cond (is_begun K n) (ending K n) (rest_with K n o)) ≡ true
     rested o h = ap (λ b. is_some (cond b (ending K n) (rest_with K n o))) (lent_unbegun H c t own n l) ∙ h
@@ -229,42 +219,12 @@ used_lent H c t own n l u restless no_pin = or_right (goes_on K n) (are_live K n
 pub unfinished_lent : (H : List Event) (c t : ℕ) (own : Owner) (n : ℕ) → Lawful (lends H c t own n) → is_unfinished H n ≡ true
 unfinished_lent H c t own n l = lends_unfinished H c t own n l.0 l.1 (lent_some H c t own n l)
 
-pub kept_lent : (H : List Event) (c t : ℕ) (own : Owner) (n : ℕ) → Lawful (lends H c t own n) → makes_pin (work H n) ≡ false → is_kept (lends H c t own n) n ≡ true
-kept_lent H c t own n l no_pin = by (rests (lends H c t own n) n) refl
+pub kept_lent : (H : List Event) (c t : ℕ) (own : Owner) (n : ℕ) → Lawful (lends H c t own n) → is_kept (lends H c t own n) n ≡ true
+kept_lent H c t own n l = by (rests (lends H c t own n) n) refl
   where
     by : (b : Bool) → rests (lends H c t own n) n ≡ b → is_kept (lends H c t own n) n ≡ true
     by true is = or_right (is_used (lends H c t own n) n) (rests (lends H c t own n) n) is
-    by false is = or_first (is_used (lends H c t own n) n) (rests (lends H c t own n) n) (used_lent H c t own n l (unfinished_lent H c t own n l) is no_pin)
-
--- A call that pins is held as long as it has no reply, so the connection is in use in any case.
-pins_owner : (w : Work) (n : ℕ) → makes_pin w ≡ true → owner_as w n ≡ owners.Pin n
-pins_owner (Pin label) n h = refl
-pins_owner w n h = absurd cc
-
-pub in_use_lent : (H : List Event) (c t : ℕ) (own : Owner) (n : ℕ) → Lawful (lends H c t own n) → is_in_use (lends H c t own n) (Lent t own) ≡ true
-in_use_lent H c t own n l = by (makes_pin (work H n)) refl
-  where
-    K : List Event
-    K = lends H c t own n
-
-    number : n ≡ number_of own
-    number = lends_to H c t own n l.1
-
-    held : (g u s : Bool) → u ≡ true → s ≡ true → (g || (u && s)) ≡ true
-    held true u s x y = refl
-    held false u s x y = ap (λ b. b && s) x ∙ y
-
-    kept : keeps_pin K (owners.Pin n) ≡ true
-    kept =
-        ap (λ b. (b || (is_some (kept_by K n) || (not (holder K (home K n) == 0) || is_some (unpinning K n)))) || is_perhaps_used K (owners.Pin n))
-        (held (pin_goes_on K n) (is_unfinished K n) (was_served (tries K n)) (unfinished_lent H c t own n l) (ap was_served (newest_lent H c t own n)))
-
-    by : (b : Bool) → makes_pin (work H n) ≡ b → is_in_use K (Lent t own) ≡ true
-    by true is =
-        let o = owner_is_of K c t own l (lent_there H c t own n l) in
-        let its : own ≡ owners.Pin n = o.1 ∙ (ap (λ k. owner_as (work H k) k) (sym number) ∙ pins_owner (work H n) n is) in
-        or_right (is_kept K (number_of own)) (keeps_pin K own) (ap (keeps_pin K) its ∙ kept)
-    by false is = or_first (is_kept K (number_of own)) (keeps_pin K own) (ap (is_kept K) (sym number) ∙ kept_lent H c t own n l is)
+    by false is = or_first (is_used (lends H c t own n) n) (rests (lends H c t own n) n) (used_lent H c t own n l (unfinished_lent H c t own n l) is)
 
 -- The call has the connection.
 has_home : (H : List Event) (c t : ℕ) (own : Owner) (n : ℕ) → Lawful (lends H c t own n) → is_some (smallest (is_home n) (pool (lends H c t own n))) ≡ true
@@ -277,19 +237,8 @@ has_home H c t own n l = by (smallest (is_home n) (pool (lends H c t own n))) (l
         let clash : None ≡ Some (Lent t own) = sym none ∙ (ap (place (lends H c t own n)) is ∙ lent_there H c t own n l) in
         absurd cc
 
--- A connection that is lent to no pin is lent to a call that makes none.
-pub no_pin_lent : (H : List Event) (c t : ℕ) (own : Owner) (n : ℕ) → Lawful (lends H c t own n) → is_pin own ≡ false → makes_pin (work H n) ≡ false
-no_pin_lent H c t own n l off = by (makes_pin (work H n)) refl
-  where
-    by : (b : Bool) → makes_pin (work H n) ≡ b → b ≡ false
-    by true is =
-        let o = owner_is_of (lends H c t own n) c t own l (lent_there H c t own n l) in
-        let number = lends_to H c t own n l.1 in
-        sym (ap is_pin (o.1 ∙ (ap (λ k. owner_as (work H k) k) (sym number) ∙ pins_owner (work H n) n is))) ∙ off
-    by false is = refl
-
--- The call sends what is due, or it replies if it rests or pins outside of a step of its own.
-pub stands_lent : (H : List Event) (c t : ℕ) (own : Owner) (n : ℕ) → Lawful (lends H c t own n) → (is_some (due_for (lends H c t own n) n) ≡ false → is_own_step (lends H c t own n) n ≡ false)
+-- The call sends what is due, or it replies if it rests outside of a step of its own.
+pub stands_lent : (H : List Event) (c t : ℕ) (own : Owner) (n : ℕ) → Lawful (lends H c t own n) → (rests (lends H c t own n) n ≡ true → is_own_step (lends H c t own n) n ≡ false)
     → stand (lends H c t own n) n ≡ Some (cond (is_some (due_for (lends H c t own n) n)) (stands_at.Sends c) stands_at.Replies)
 stands_lent H c t own n l apart = by (is_some (due_for (lends H c t own n) n)) refl
   where
@@ -303,36 +252,16 @@ stands_lent H c t own n l apart = by (is_some (due_for (lends H c t own n) n)) r
     settled is =
         or_first (is_some (rests_with K n)) (is_none (decided K n) && is_some (told_by_others K n)) (ap (λ b. is_some (cond b (smallest (is_home n) (pool K)) None)) is ∙ has_home H c t own n l)
 
-    undecided : decided K n ≡ None
-    undecided = from (lends_from H c t own n l.0 l.1)
-      where
-        from : (may_ask H n ≡ true) ⊎ (wants n (pool H) ≡ true) → decided H n ≡ None
-        from (inl may) = asks_undecided H n may
-        from (inr wanting) = wants_undecided H n l.0 some wanting
-
-    told : (w : Work) → makes_pin w ≡ true → is_some (told_of_work K n w) ≡ true
-    told (Pin label) h = ap (λ ts. is_some (told_as_pinned K (Pin label) ts)) (newest_lent H c t own n)
-    told w h = absurd cc
-
-    pinned : makes_pin (work H n) ≡ true → is_settled_for K n ≡ true
-    pinned is =
-        or_right (is_some (rests_with K n)) (is_none (decided K n) && is_some (told_by_others K n)) (ap (λ o. is_none o && is_some (told_by_others K n)) undecided ∙ told (work H n) is)
-
-    replies : is_settled_for K n ≡ true → is_some (due_for K n) ≡ false → stand K n ≡ Some stands_at.Replies
-    replies so none =
+    rested : (b : Bool) → rests K n ≡ b → is_some (due_for K n) ≡ false → stand K n ≡ Some stands_at.Replies
+    rested true is none =
         let unwanting = neither (waits n (pool K).waiting) (list_any (λ conn. is_for n conn.place) (pool K).conns) (none_wanted n (pool K) (lends_unwanting H c t own n l some)) in
-        rests_there (waits n (pool K).waiting) (is_some (due_for K n)) (smallest (is_for n) (pool K)) (site K n) (lingers_on K (site K n) n (work K n)) (where_told K n) unwanting.0 (none_opens n (pool K) unwanting.1) none
-        (asks_no_close K (site K n) n (work K n) (lent_asker H c t own n l))
-        ∙ replies_first (has_to_reply K n) (asks_again (tries K n)) (replies_apart (is_own_step K n) (is_settled_for K n) (apart none) so)
-
-    rested : (b m : Bool) → rests K n ≡ b → makes_pin (work H n) ≡ m → is_some (due_for K n) ≡ false → stand K n ≡ Some stands_at.Replies
-    rested true m is pins none = replies (settled is) none
-    rested false true is pins none = replies (pinned pins) none
-    rested false false is pins none = absurd (true_false (is_some (due_for K n)) (due_lent H c t own n l (unfinished_lent H c t own n l) is pins) none)
+        rests_there (waits n (pool K).waiting) (is_some (due_for K n)) (smallest (is_for n) (pool K)) (site K n) (where_told K n) unwanting.0 (none_opens n (pool K) unwanting.1) none
+        ∙ replies_first (has_to_reply K n) (asks_again (tries K n)) (replies_apart (is_own_step K n) (is_settled_for K n) (apart is) (settled is))
+    rested false is none = absurd (true_false (is_some (due_for K n)) (due_lent H c t own n l (unfinished_lent H c t own n l) is) none)
 
     by : (b : Bool) → is_some (due_for K n) ≡ b → stand K n ≡ Some (cond b (stands_at.Sends c) stands_at.Replies)
     by true due = stands_sending K n l some due ∙ ap (λ d. Some (stands_at.Sends d)) (lent_site H c t own n l)
-    by false none = rested (rests K n) (makes_pin (work H n)) refl refl none
+    by false none = rested (rests K n) refl none
 
 pub waits_lent : (H : List Event) (c t : ℕ) (own : Owner) (n j : ℕ) → j ≢ n → waits j (pool H).waiting ≡ true → stand (lends H c t own n) j ≡ Some stands_at.Waits
 waits_lent H c t own n j apart h = stands_waiting (lends H c t own n) j (still_waits j n (pool H).waiting apart h)

@@ -33,7 +33,6 @@ use Rattle.dsql_laws_calls.specs.history.Readers.Unfinished.{unfinished}
 use Rattle.dsql_laws_calls.specs.history.Readers.Works.{work, scope, borrower}
 use Rattle.dsql_laws_calls.specs.history.Rules.Settled.{calls_stand, calls_stand_but}
 use Rattle.dsql_laws_calls.specs.history.Rules.Stands.{is_own_step, is_settled_for, stand}
-use Rattle.dsql_laws_calls.specs.history.Rules.Line.{due_for}
 use Rattle.dsql_laws_calls.specs.history.Legal.{Lawful}
 use Rattle.dsql_laws_calls.proofs.laws.Tried.{lends_to}
 use Rattle.dsql_laws_calls.proofs.Inside.{inside_uses}
@@ -144,15 +143,15 @@ stand_other H c t own n m l apart h =
     still_stands H (lends H c t own n) m (tries_same H c t own n m apart) (still_waits m n (pool H).waiting apart) (λ x. ap (λ o. is_some o) (opening_same H c t own n m l apart) ∙ x)
     (λ x. ap (λ d. is_some d) (due_others H c t own n m l apart) ∙ x) (own_still H c t own n m apart) (settled_lent H c t own n m l apart) h
 
-some_stand : (H : List Event) (c t : ℕ) (own : Owner) (n m : ℕ) → Lawful (lends H c t own n) → (is_some (due_for (lends H c t own n) n) ≡ false → is_own_step (lends H c t own n) n ≡ false) → (m ≢ n → is_some (stand H m) ≡ true) → is_some (stand (lends H c t own n) m) ≡ true
+some_stand : (H : List Event) (c t : ℕ) (own : Owner) (n m : ℕ) → Lawful (lends H c t own n) → (rests (lends H c t own n) n ≡ true → is_own_step (lends H c t own n) n ≡ false) → (m ≢ n → is_some (stand H m) ≡ true) → is_some (stand (lends H c t own n) m) ≡ true
 some_stand H c t own n m l step so = by (same_or_not m n)
   where
     by : (m ≡ n) ⊎ (m ≢ n) → is_some (stand (lends H c t own n) m) ≡ true
     by (inl same) = ap (λ k. is_some (stand (lends H c t own n) k)) same ∙ ap (λ s. is_some s) (stands_lent H c t own n l step)
     by (inr apart) = stand_other H c t own n m l apart (so apart)
 
-pub itself_lent : (H : List Event) (c t : ℕ) (own : Owner) (n : ℕ) → Lawful (lends H c t own n) → (is_some (due_for (lends H c t own n) n) ≡ false → is_own_step (lends H c t own n) n ≡ false) → calls_stand_but n H ≡ true → calls_stand (lends H c t own n) ≡ true
+pub itself_lent : (H : List Event) (c t : ℕ) (own : Owner) (n : ℕ) → Lawful (lends H c t own n) → (rests (lends H c t own n) n ≡ true → is_own_step (lends H c t own n) n ≡ false) → calls_stand_but n H ≡ true → calls_stand (lends H c t own n) ≡ true
 itself_lent H c t own n l step h = each_stands n 0 (unfinished H) H (lends H c t own n) (λ j u some was. some_stand H c t own n j l step was) h
 
-pub somewhere_lent : (H : List Event) (c t : ℕ) (own : Owner) (n k : ℕ) → Lawful (lends H c t own n) → (is_some (due_for (lends H c t own n) n) ≡ false → is_own_step (lends H c t own n) n ≡ false) → calls_stand_but k H ≡ true → calls_stand_but k (lends H c t own n) ≡ true
+pub somewhere_lent : (H : List Event) (c t : ℕ) (own : Owner) (n k : ℕ) → Lawful (lends H c t own n) → (rests (lends H c t own n) n ≡ true → is_own_step (lends H c t own n) n ≡ false) → calls_stand_but k H ≡ true → calls_stand_but k (lends H c t own n) ≡ true
 somewhere_lent H c t own n k l step h = each_stands k k (unfinished H) H (lends H c t own n) (λ j u apart was. some_stand H c t own n j l step (λ other. was apart)) h

@@ -6,7 +6,6 @@ pub mod Once
 pub mod Meant
 pub mod Lends
 pub mod Alike
-pub mod Pins
 pub mod Numbers
 pub mod Homes
 pub mod Openings

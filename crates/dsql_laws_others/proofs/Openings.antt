@@ -17,7 +17,7 @@ use Rattle.dsql_laws_calls.specs.pool.Pooled.{Pooled, next_number}
 use Rattle.dsql_laws_calls.specs.history.Readers.Tries.{asks_again, tries}
 use Rattle.dsql_laws_calls.specs.history.declared.record.Stand.TheVariants as stands_at
 use Rattle.dsql_laws_calls.specs.history.Readers.Pool.{is_home, or_none, smallest, pool, place, home, wanted_by}
-use Rattle.dsql_laws_calls.specs.history.Rules.Stands.{stands, opens, lingers_on, is_settled_for, has_to_reply, stand}
+use Rattle.dsql_laws_calls.specs.history.Rules.Stands.{stands, opens, is_settled_for, has_to_reply, stand}
 use Rattle.dsql_laws_calls.proofs.laws.Tests.{other_number, same_itself}
 use Rattle.dsql_laws_calls.specs.history.declared.event.Event.{Event}
 use Rattle.dsql_laws_calls.specs.history.declared.event.Event.TheVariants.{Pool}
@@ -25,12 +25,9 @@ use Rattle.dsql_laws_calls.specs.history.Readers.Unfinished.{unfinished}
 use Rattle.dsql_laws_calls.specs.history.Rules.Settled.{is_in_use, uses_what_is_lent, calls_stand_but, calls_stand}
 use Rattle.dsql_laws_others.proofs.Numbers.{none_zero, none_next}
 use Rattle.dsql_laws_calls.specs.history.declared.record.Stand.{Stand}
-use Rattle.dsql_laws_others.proofs.Untouched.{all_in, each_still, in_use_as, still_stands}
+use Rattle.dsql_laws_others.proofs.Untouched.{each_still, still_stands}
 use Rattle.dsql_laws_calls.specs.history.declared.work.Work.{Work}
-use Rattle.dsql_laws_calls.specs.history.declared.work.Work.TheVariants.{Begin, Pin, Unpin}
-use Rattle.dsql_laws_calls.specs.history.declared.reply.Reply.{Reply}
-use Rattle.dsql_laws_others.specs.Beside.{PinsUsedAlike}
-use Rattle.dsql_laws_others.proofs.Pins.{lingers_at}
+use Rattle.dsql_laws_calls.specs.history.declared.work.Work.TheVariants.{Begin}
 use Rattle.dsql_laws_calls.specs.history.Readers.Course.{caps}
 use Rattle.dsql_laws_calls.specs.history.Readers.Calls.{site, decided, told_by_others, has_begun_to_send, rests}
 use Rattle.dsql_laws_calls.specs.history.Readers.Journals.{journal}
@@ -41,6 +38,7 @@ use Rattle.dsql_laws_calls.specs.history.Rules.Sent.{is_reset_due}
 use Rattle.dsql_laws_calls.specs.history.Legal.{Lawful}
 use Rattle.dsql_laws_calls.proofs.Born.{born}
 use Rattle.dsql_laws_calls.proofs.laws_work.Rows.{same_or_not}
+use Rattle.dsql_laws_others.proofs.Alike.{in_use_alike, all_alike}
 use Rattle.dsql_laws_others.proofs.Homes.{HomeStays, HomeUnlent, due_moved, used_moved, told_still}
 use Rattle.dsql_laws_others.proofs.Settling.{each_stands}
 
@@ -193,13 +191,13 @@ and_true : (b : Bool) → (b && true) ≡ b
 and_true true = refl
 and_true false = refl
 
-pub used_opens : (H : List Event) (c k : ℕ) → PinsUsedAlike H (opens_for H c k) → uses_what_is_lent (opens_for H c k) ≡ uses_what_is_lent H
-used_opens H c k pins =
+pub used_opens : (H : List Event) (c k : ℕ) → uses_what_is_lent (opens_for H c k) ≡ uses_what_is_lent H
+used_opens H c k =
     let K = opens_for H c k in
     let conns = (pool H).conns in
     list_all-append (λ (conn : Conn). is_in_use K conn.place) conns (opening (next_number (pool H)) (wanted_by H k) ∷ [])
     ∙ (and_true (list_all (λ conn. is_in_use K conn.place) conns)
-    ∙ all_in H (λ conn. is_in_use K conn.place) (λ conn. is_in_use H conn.place) conns (λ p h. h) (λ x. in_use_as H K x.place (λ n. ap (λ b. b || rests H n) (used_moved H (OpenStart c k) n (home_opens H c k))) pins))
+    ∙ all_alike (λ conn. is_in_use K conn.place) (λ conn. is_in_use H conn.place) conns (λ x. in_use_alike H K x.place (λ n. ap (λ b. b || rests H n) (used_moved H (OpenStart c k) n (home_opens H c k)))))
 
 -- Where each call stands.
 
@@ -223,38 +221,8 @@ somewhere_opening true o rest h = refl
 somewhere_opening false None rest h = absurd cc
 somewhere_opening false (Some c) rest h = refl
 
--- The connection of another call stays the same.
-for_apart : (w : Work) (k n : ℕ) → n ≢ k → is_for n (Opening (Some (owner_as w k))) ≡ false
-for_apart (Begin label level read_only) k n apart = other_number k n (λ same. apart (sym same))
-for_apart (Pin label) k n apart = other_number k n (λ same. apart (sym same))
-for_apart _ k n apart = other_number k n (λ same. apart (sym same))
-
-home_apart : (H : List Event) (c k n : ℕ) → n ≢ k → home (opens_for H c k) n ≡ home H n
-home_apart H c k n apart = by (found_home n conns) refl
-  where
-    conns : List Conn
-    conns = (pool H).conns
-
-    x : Conn
-    x = opening (next_number (pool H)) (wanted_by H k)
-
-    homes : found_home n (conns ++ x ∷ []) ≡ option_or (found_home n conns) (found_home n (x ∷ []))
-    homes = find-append (λ (conn : Conn). is_home n conn.place) conns (x ∷ [])
-
-    off : (b : Bool) → is_for n (Opening (cond b None (Some (owner_of H k)))) ≡ false
-    off true = refl
-    off false = for_apart (work H k) k n apart
-
-    by : (o : Option Conn) → found_home n conns ≡ o → home (opens_for H c k) n ≡ home H n
-    by (Some y) is = ap number_or (homes ∙ first_or (found_home n conns) (found_home n (x ∷ [])) y is) ∙ sym (ap number_or is)
-    by None is = ap number_or (homes ∙ (second_or (found_home n conns) (found_home n (x ∷ [])) is ∙ ap (λ b. cond b (Some x) None) (off (k == 0)))) ∙ sym (ap number_or is)
-
--- Holds if call m doesn't close the pin of call k, or was refused.
-abbrev pub Closed : List Event → ℕ → ℕ → Type 0
-Closed H k m = work H m ≡ Unpin k → is_some (decided H m) ≡ true
-
-settled_opens : (H : List Event) (c k m : ℕ) → Silent H → Closed H k m → is_settled_for H m ≡ true → is_settled_for (opens_for H c k) m ≡ true
-settled_opens H c k m l closed h = by (rests H m) h
+settled_opens : (H : List Event) (c k m : ℕ) → Silent H → is_settled_for H m ≡ true → is_settled_for (opens_for H c k) m ≡ true
+settled_opens H c k m l h = by (rests H m) h
   where
     p : Pooled
     p = pool H
@@ -262,23 +230,12 @@ settled_opens H c k m l closed h = by (rests H m) h
     K : List Event
     K = opens_for H c k
 
-    gone : is_none (decided H m) ≡ true → (p : ℕ) → work H m ≡ Unpin p → (home H p == 0) ≡ true → (home K p == 0) ≡ true
-    gone undecided p is x = at (same_or_not p k)
-      where
-        clash : (o : Option Reply) → is_some o ≡ true → is_none o ≡ true → ⊥
-        clash None y z = cc
-        clash (Some r) y z = cc
+    told : is_some (told_by_others H m) ≡ true → is_some (told_by_others K m) ≡ true
+    told = told_still H (OpenStart c k) m refl (fewer_sent H c k m l)
 
-        at : (p ≡ k) ⊎ (p ≢ k) → (home K p == 0) ≡ true
-        at (inl same) = absurd (clash (decided H m) (closed (is ∙ ap Unpin same)) undecided)
-        at (inr apart) = ap (λ d. d == 0) (home_apart H c k p apart) ∙ x
-
-    told : is_none (decided H m) ≡ true → is_some (told_by_others H m) ≡ true → is_some (told_by_others K m) ≡ true
-    told undecided = told_still H (OpenStart c k) m refl (fewer_sent H c k m l) (gone undecided)
-
-    decides : (a b d : Bool) → (d ≡ true → a ≡ true → b ≡ true) → (d && a) ≡ true → (d && b) ≡ true
-    decides a b true so x = so refl x
-    decides a b false so x = x
+    decides : (a b : Bool) → (a ≡ true → b ≡ true) → (d : Bool) → (d && a) ≡ true → (d && b) ≡ true
+    decides a b so true x = so x
+    decides a b so false x = x
 
     home_more : is_some (smallest (is_home m) p) ≡ true → is_some (smallest (is_home m) (pool K)) ≡ true
     home_more some =
@@ -294,31 +251,21 @@ settled_opens H c k m l closed h = by (rests H m) h
         → (is_some (cond b (smallest (is_home m) (pool K)) None) || (is_none (decided H m) && is_some (told_by_others K m))) ≡ true
     by true x =
         either_way (is_some (smallest (is_home m) p)) (is_some (smallest (is_home m) (pool K))) (is_none (decided H m) && is_some (told_by_others H m)) (is_none (decided H m) && is_some (told_by_others K m)) home_more
-        (decides (is_some (told_by_others H m)) (is_some (told_by_others K m)) (is_none (decided H m)) told) x
-    by false x = decides (is_some (told_by_others H m)) (is_some (told_by_others K m)) (is_none (decided H m)) told x
+        (decides (is_some (told_by_others H m)) (is_some (told_by_others K m)) told (is_none (decided H m))) x
+    by false x = decides (is_some (told_by_others H m)) (is_some (told_by_others K m)) told (is_none (decided H m)) x
 
--- A call that has a connection has one afterwards.
-home_some : (H : List Event) (c k n : ℕ) → (home H n == 0) ≡ false → (home (opens_for H c k) n == 0) ≡ false
-home_some H c k n some = by (home_moves H c k n)
-  where
-    by : (home (opens_for H c k) n ≡ home H n) ⊎ (home (opens_for H c k) n ≡ next_number (pool H)) → (home (opens_for H c k) n == 0) ≡ false
-    by (inl same) = ap (λ d. d == 0) same ∙ some
-    by (inr new) = ap (λ d. d == 0) new ∙ other_number (next_number (pool H)) 0 (λ none. absurd (omega (arith, none)))
-
-stand_opens : (H : List Event) (c k m : ℕ) → Silent H → Closed H k m → is_some (stand H m) ≡ true → is_some (stand (opens_for H c k) m) ≡ true
-stand_opens H c k m l closed h =
+stand_opens : (H : List Event) (c k m : ℕ) → Silent H → is_some (stand H m) ≡ true → is_some (stand (opens_for H c k) m) ≡ true
+stand_opens H c k m l h =
     let p = pool H in
     let K = opens_for H c k in
     let more : is_some (smallest (is_for m) p) ≡ true → is_some (smallest (is_for m) (pool K)) ≡ true =
     λ some. some_number (find (λ conn. is_for m conn.place) (p.conns ++ opening (next_number p) (wanted_by H k) ∷ []))
     ∙ found_more (λ conn. is_for m conn.place) p.conns (opening (next_number p) (wanted_by H k)) (sym (some_number (find (λ conn. is_for m conn.place) p.conns)) ∙ some)
     in
-    still_stands H K m refl (λ x. x) more (λ x. ap (λ d. is_some d) (due_opens H c k m) ∙ x)
-    (λ x. inl (lingers_at H (Pool (OpenStart c k)) (site H m) (site K m) m (work H m) (λ p. refl) (home_some H c k (borrower H m)) x)) (λ x. x) (settled_opens H c k m l closed) h
+    still_stands H K m refl (λ x. x) more (λ x. ap (λ d. is_some d) (due_opens H c k m) ∙ x) (λ x. x) (settled_opens H c k m l) h
 
 own_for : (w : Work) (n : ℕ) → is_for n (Opening (Some (owner_as w n))) ≡ true
 own_for (Begin label level read_only) n = same_itself n
-own_for (Pin label) n = same_itself n
 own_for _ n = same_itself n
 
 itself_opens : (H : List Event) (c n : ℕ) → (n == 0) ≡ false → is_some (stand (opens_for H c n) n) ≡ true
@@ -327,15 +274,15 @@ itself_opens H c n some =
     let K = opens_for H c n in
     let its : is_for n (Opening (wanted_by H n)) ≡ true = ap (λ b. is_for n (Opening (cond b None (Some (owner_of H n))))) some ∙ own_for (work H n) n in
     let found = found_last (λ conn. is_for n conn.place) p.conns (opening (next_number p) (wanted_by H n)) its in
-    somewhere_opening (waits n p.waiting) (smallest (is_for n) (pool K)) (or_else (stands (is_some (due_for K n)) (stands_at.Sends (site K n))) (or_else (lingers_on K (site K n) n (work K n)) (or_else (stands (has_to_reply K n) stands_at.Replies) (stands (asks_again (tries H n)) stands_at.Asks))))
+    somewhere_opening (waits n p.waiting) (smallest (is_for n) (pool K)) (or_else (stands (is_some (due_for K n)) (stands_at.Sends (site K n))) (or_else (stands (has_to_reply K n) stands_at.Replies) (stands (asks_again (tries H n)) stands_at.Asks)))
     (some_number (find (λ conn. is_for n conn.place) (p.conns ++ opening (next_number p) (wanted_by H n) ∷ [])) ∙ found)
 
-pub goes_on_opens : (H : List Event) (c n : ℕ) → Silent H → ((m : ℕ) → Closed H n m) → calls_stand_but n H ≡ true → calls_stand (opens_for H c n) ≡ true
-goes_on_opens H c n l closed h = each_stands n 0 (unfinished H) H (opens_for H c n) (λ m u some was. by m some (same_or_not m n) was) h
+pub goes_on_opens : (H : List Event) (c n : ℕ) → Silent H → calls_stand_but n H ≡ true → calls_stand (opens_for H c n) ≡ true
+goes_on_opens H c n l h = each_stands n 0 (unfinished H) H (opens_for H c n) (λ m u some was. by m some (same_or_not m n) was) h
   where
     by : (m : ℕ) → m ≢ 0 → (m ≡ n) ⊎ (m ≢ n) → (m ≢ n → is_some (stand H m) ≡ true) → is_some (stand (opens_for H c n) m) ≡ true
     by m some (inl same) was = subst (λ j. is_some (stand (opens_for H c n) j) ≡ true) (sym same) (itself_opens H c n (other_number n 0 (λ none. some (same ∙ none))))
-    by m some (inr apart) was = stand_opens H c n m l (closed m) (was apart)
+    by m some (inr apart) was = stand_opens H c n m l (was apart)
 
-pub goes_on_opens_but : (H : List Event) (c k n : ℕ) → Silent H → ((m : ℕ) → Closed H k m) → calls_stand_but n H ≡ true → calls_stand_but n (opens_for H c k) ≡ true
-goes_on_opens_but H c k n l closed h = each_still n (unfinished H) H (opens_for H c k) (λ m. stand_opens H c k m l (closed m)) h
+pub goes_on_opens_but : (H : List Event) (c k n : ℕ) → Silent H → calls_stand_but n H ≡ true → calls_stand_but n (opens_for H c k) ≡ true
+goes_on_opens_but H c k n l h = each_still n (unfinished H) H (opens_for H c k) (λ m. stand_opens H c k m l) h

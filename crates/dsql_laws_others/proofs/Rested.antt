@@ -16,8 +16,7 @@ use Rattle.dsql_laws_calls.specs.course.Steps.{Step, PingIt, step_of}
 use Rattle.dsql_laws_calls.specs.course.Line.{behind_call, comes_next, first_wanted, or_then, steps_left, when}
 use Rattle.dsql_laws_calls.specs.journal.declared.entry.Entry.{Entry}
 use Rattle.dsql_laws_calls.specs.journal.declared.entry.Owner.{Owner}
-use Rattle.dsql_laws_calls.specs.journal.declared.entry.Owner.TheVariants.{Call}
-use Rattle.dsql_laws_calls.specs.journal.Kinds.{is_call, is_pin, number_of}
+use Rattle.dsql_laws_calls.specs.journal.Kinds.{is_call, number_of}
 use Rattle.dsql_laws_calls.specs.journal.Readers.{of_tenure}
 use Rattle.dsql_laws_calls.specs.journal.Readers as journals
 use Rattle.dsql_laws_calls.specs.pool.declared.conn.Place.TheVariants.{Lent}
@@ -177,15 +176,11 @@ was_good it e own its is kept =
 pub pings_as_call : (H : List Event) (c t : ℕ) (own : Owner) → Lawful H → place H c ≡ Some (Lent t own) → work H (number_of own) ≡ Ping → is_call own ≡ true
 pings_as_call H c t own l at pings = let o = owner_is_of H c t own l at in ap is_call (o.1 ∙ ap (λ w. owner_as w (number_of own)) pings)
 
-call_is_no_pin : (own : Owner) → is_call own ≡ true → is_pin own ≡ false
-call_is_no_pin (Call n) h = refl
-call_is_no_pin own h = absurd cc
-
 -- Only the ping sends there.
 sends_itself : (H : List Event) (c t : ℕ) (own : Owner) (m : ℕ) → Lawful H → work H (number_of own) ≡ Ping → Why H c t own m → m ≡ number_of own
 sends_itself H c t own m l pings (inl why) = sym why.itself
 sends_itself H c t own m l pings (inr (inl why)) = let clash : false ≡ true = sym (ap hands_out pings) ∙ rows_hand_out H (number_of own) why.some in absurd cc
-sends_itself H c t own m l pings (inr (inr why)) = let clash : false ≡ true = sym (ap begins pings) ∙ begun_begins H (number_of own) l (ap asks pings) why.begun in absurd cc
+sends_itself H c t own m l pings (inr (inr why)) = let clash : false ≡ true = sym (ap begins pings) ∙ begun_begins H (number_of own) l why.begun in absurd cc
 
 -- A tenure with nothing but resets, none of which ends it.
 pub record OnlyReset (L : List Entry) : Type 0 where
@@ -210,7 +205,7 @@ answered H e c t own l at h same had =
     let r = resting (caps H) (work H n) (tries H n) kept.1 in
     let its : number_of u.owner ≡ n = ap number_of w.owner in
     let pings : work H (number_of u.owner) ≡ Ping = ap (work H) its ∙ r.pings in
-    let whose : e.call_no ≡ n = sends_itself H e.conn e.tenure u.owner e.call_no l.0 pings (u.why (call_is_no_pin u.owner (pings_as_call H e.conn e.tenure u.owner l.0 u.lent pings))) ∙ its in
+    let whose : e.call_no ≡ n = sends_itself H e.conn e.tenure u.owner e.call_no l.0 pings u.why ∙ its in
     let mine : (e.call_no == n) ≡ true = ap (λ i. i == n) whose ∙ same_itself n in
     let due = u.line (pings_as_call H e.conn e.tenure u.owner l.0 u.lent pings) in
     let reset = only_reset (caps H) (is_reset_due H e.conn) (asked_by H (number_of u.owner)) due.0 (heard_in H e.conn e.tenure) e.call

@@ -5,22 +5,20 @@ use Rattle.std.proofs.Common.{◌≡◌, ◌≢◌, ℕ, ◌==◌, Bool, true, f
 use Rattle.std.specs.List.{list_all}
 use Rattle.dsql_laws_calls.specs.course.Made.{or_else}
 use Rattle.dsql_laws_calls.specs.journal.Readers.{has}
-use Rattle.dsql_laws_calls.specs.history.declared.record.Stand.{Stand}
 use Rattle.dsql_laws_calls.specs.history.declared.record.Stand.TheVariants as stands_at
 use Rattle.dsql_laws_calls.specs.history.declared.event.Event.{Event}
 use Rattle.dsql_laws_calls.specs.history.Rules.Stands.{stands, opens, stand}
 use Rattle.dsql_laws_calls.proofs.laws.Truths.{or_second}
 use Rattle.dsql_laws_calls.proofs.laws.Tests.{both, together, second, same_itself, other_number}
 
-pub somewhere : (w : Bool) (o : Option ℕ) (d r a : Bool) (c : ℕ) (x : Option Stand)
-    → is_some (or_else (stands w stands_at.Waits) (or_else (opens o) (or_else (stands d (stands_at.Sends c)) (or_else x (or_else (stands r stands_at.Replies) (stands a stands_at.Asks)))))) ≡ (w || (is_some o || (((d || is_some x) || r) || a)))
-somewhere true o d r a c x = refl
-somewhere false (Some k) d r a c x = refl
-somewhere false None true r a c x = refl
-somewhere false None false r a c (Some s) = refl
-somewhere false None false true a c None = refl
-somewhere false None false false true c None = refl
-somewhere false None false false false c None = refl
+pub somewhere : (w : Bool) (o : Option ℕ) (d r a : Bool) (c : ℕ)
+    → is_some (or_else (stands w stands_at.Waits) (or_else (opens o) (or_else (stands d (stands_at.Sends c)) (or_else (stands r stands_at.Replies) (stands a stands_at.Asks))))) ≡ (w || (is_some o || ((d || r) || a)))
+somewhere true o d r a c = refl
+somewhere false (Some k) d r a c = refl
+somewhere false None true r a c = refl
+somewhere false None false true a c = refl
+somewhere false None false false true c = refl
+somewhere false None false false false c = refl
 
 -- What holds of each number of a list.
 

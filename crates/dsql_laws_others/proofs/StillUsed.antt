@@ -5,7 +5,7 @@ use Rattle.dsql_laws_calls.specs.course.declared.course.Wish.{Wish}
 use Rattle.dsql_laws_calls.specs.course.declared.course.Wish.TheVariants as wishes
 use Rattle.dsql_laws_calls.specs.driver.declared.call.DriverCall.{DriverCall}
 use Rattle.dsql_laws_calls.specs.journal.declared.entry.Owner.{Owner}
-use Rattle.dsql_laws_calls.specs.journal.Kinds.{is_pin, number_of}
+use Rattle.dsql_laws_calls.specs.journal.Kinds.{number_of}
 use Rattle.dsql_laws_calls.specs.rows.declared.rows.Rows.{Rows}
 use Rattle.dsql_laws_calls.specs.rows.OpenRows.{is_live}
 use Rattle.dsql_laws_calls.specs.pool.declared.conn.Conn.{Conn}
@@ -31,13 +31,11 @@ use Rattle.dsql_laws_calls.specs.history.Rules.Line.{rest_with, rest, is_used}
 use Rattle.dsql_laws_calls.specs.history.Rules.Sent.{line_of}
 use Rattle.dsql_laws_calls.specs.history.Rules.Settled.{is_in_use, is_kept, uses_what_is_lent}
 use Rattle.dsql_laws_calls.specs.history.Legal.{Lawful}
-use Rattle.dsql_laws_calls.proofs.Begun.{begun_begins, begun_starts, over_begun}
-use Rattle.dsql_laws_calls.proofs.Beginnings.{begin_no_pin}
-use Rattle.dsql_laws_calls.proofs.Owners.{lent_asks}
+use Rattle.dsql_laws_calls.proofs.Begun.{begun_begins, over_begun}
 use Rattle.dsql_laws_calls.proofs.Coming.{sound}
 use Rattle.dsql_laws_calls.proofs.LiveRows.{live_some}
-use Rattle.dsql_laws_calls.proofs.Makers.{rows_start_nothing}
-use Rattle.dsql_laws_calls.proofs.Plain.{starts}
+use Rattle.dsql_laws_calls.proofs.Makers.{rows_begin_nothing}
+use Rattle.dsql_laws_calls.proofs.Plain.{begins}
 use Rattle.dsql_laws_calls.proofs.Sound.{Sound}
 use Rattle.dsql_laws_calls.proofs.TxEnders.{same_going}
 use Rattle.dsql_laws_calls.proofs.UnderWay.{Facts, ending_over}
@@ -83,7 +81,7 @@ going_on H client n op x goes = by (tx_turn H client n op (number_of x.owner))
         let e = x.entry in
         let l = e.lawful in
         let at : place K x.conn ≡ Some (Lent x.tenure x.owner) = ap (λ p. place_at p x.conn) e.pool ∙ x.lent in
-        tx_used K x.conn x.tenure x.owner l at (record { begun = over_begun K j w.1; left = inl (ends x.conn x.tenure x.owner x.lent unpinned (not_over H j goes)) })
+        tx_used K x.conn x.tenure x.owner l at (record { begun = over_begun K j w.1; left = inl (ends x.conn x.tenure x.owner x.lent (not_over H j goes)) })
       where
         l0 : Lawful H
         l0 = let e = x.entry in let l = e.lawful in l.0
@@ -94,12 +92,7 @@ going_on H client n op x goes = by (tx_turn H client n op (number_of x.owner))
         f : Facts H
         f = s.facts
 
-        unpinned : is_pin x.owner ≡ false
-        unpinned =
-            let b = both (is_begun H (number_of x.owner)) (not (is_over H (number_of x.owner))) goes in
-            begin_no_pin H x.conn x.tenure x.owner l0 x.lent (begun_begins H (number_of x.owner) l0 (lent_asks H x.conn x.tenure x.owner l0 x.lent) b.0)
-
-        ends : (c t : ℕ) (own : Owner) → place H c ≡ Some (Lent t own) → is_pin own ≡ false → is_over H (number_of own) ≡ false → ended_there (heard_in H c t) ≡ false
+        ends : (c t : ℕ) (own : Owner) → place H c ≡ Some (Lent t own) → is_over H (number_of own) ≡ false → ended_there (heard_in H c t) ≡ false
         ends = f.ends
 
 -- What is still to be sent is the same before and after the entry.
@@ -163,8 +156,8 @@ used_same H client n op x txs = by (rows_turn H client n op (number_of x.owner))
             begins_none begun =
                 let e = x.entry in
                 let l = e.lawful in
-                let none = rows_start_nothing H j (live_some (rows_by H j) lives) in
-                true_false (starts (work H j)) (begun_starts H j l.0 begun) none
+                let none = rows_begin_nothing H j (live_some (rows_by H j) lives) in
+                true_false (begins (work H j)) (begun_begins H j l.0 begun) none
 
     by : Turns (rows_by H (number_of x.owner)) (rows_by (enters H client n op) (number_of x.owner)) → is_used (enters H client n op) (number_of x.owner) ≡ is_used H (number_of x.owner)
     by (inl same) =

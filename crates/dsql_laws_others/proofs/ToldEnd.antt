@@ -31,7 +31,7 @@ use Rattle.dsql_laws_calls.specs.history.declared.event.Op.TheVariants as ops
 use Rattle.dsql_laws_calls.specs.history.declared.reply.Reply.TheVariants.{TxDone}
 use Rattle.dsql_laws_calls.specs.history.declared.work.Scope.TheVariants.{Held}
 use Rattle.dsql_laws_calls.specs.history.declared.work.Work.{Work}
-use Rattle.dsql_laws_calls.specs.history.declared.work.Work.TheVariants.{Statement, Unpin}
+use Rattle.dsql_laws_calls.specs.history.declared.work.Work.TheVariants.{Statement}
 use Rattle.dsql_laws_calls.specs.history.Readers.Calls.{decided, done_with, has_begun_to_send, reply_due, rests_with, site, told_at_lending, told_by_others, told_by_scope, told_of_work}
 use Rattle.dsql_laws_calls.specs.history.Readers.HandedOut.{rows_by, are_live}
 use Rattle.dsql_laws_calls.specs.history.Readers.Transactions.{ends_as, transactions, tx_by, end_of, tx_end, is_begun, is_over, goes_on}
@@ -39,7 +39,7 @@ use Rattle.dsql_laws_calls.specs.history.Readers.Unfinished.{is_unfinished}
 use Rattle.dsql_laws_calls.specs.history.Readers.Works.{works, work, asks, hands_out_in, scope, tx_maker}
 use Rattle.dsql_laws_calls.specs.history.Rules.Line.{due_inside, due_in, due_for}
 use Rattle.dsql_laws_calls.specs.history.Rules.Sent.{line_of}
-use Rattle.dsql_laws_calls.specs.history.Rules.Stands.{lingers_on, is_own_step, is_settled_for, has_to_reply, stand}
+use Rattle.dsql_laws_calls.specs.history.Rules.Stands.{is_own_step, is_settled_for, has_to_reply, stand}
 use Rattle.dsql_laws_calls.specs.history.Legal.{Lawful}
 use Rattle.dsql_laws_calls.proofs.laws.Numbered.{unfinished_from_one}
 use Rattle.dsql_laws_calls.proofs.laws.Wanting.{wants_its_own}
@@ -159,11 +159,6 @@ unwanting H m k l some inner = by (wants m (pool H)) refl
     by false is = refl
     by true is = absurd (true_false (asks (work H m)) (wants_its_own H m l some is) (asks_within (work H m) k inner))
 
--- A call in a transaction closes no pin.
-held_no_close : (H : List Event) (c n k : ℕ) (w : Work) → scope w ≡ Held k → lingers_on H c n w ≡ None
-held_no_close H c n k (Unpin p) h = absurd cc
-held_no_close H c n k w h = refl
-
 pub stands_end : (H : List Event) (client n : ℕ) (op : Op) (m k : ℕ) → Unsent H client n op m k → stand (enters H client n op) m ≡ Some Replies
 stands_end H client n op m k u =
     let K = enters H client n op in
@@ -175,9 +170,8 @@ stands_end H client n op m k u =
     (together (is_none (decided K m)) (is_some (told_by_others K m)) (ap (λ d. is_none d) (undecided_still H client n op m k u)) (ap (λ o. is_some o) (told_so H client n op m k u)))
     in
     let apart : is_own_step K m ≡ false = other_number n m (λ same. apart_from m n u.apart same) in
-    rests_there (waits m (pool K).waiting) (is_some (due_for K m)) (smallest (is_for m) (pool K)) (site K m) (lingers_on K (site K m) m (work K m)) (where_told K m) (ap (λ (p : Pooled). waits m p.waiting) x.pool ∙ none.0)
+    rests_there (waits m (pool K).waiting) (is_some (due_for K m)) (smallest (is_for m) (pool K)) (site K m) (where_told K m) (ap (λ (p : Pooled). waits m p.waiting) x.pool ∙ none.0)
     (ap (smallest (is_for m)) x.pool ∙ none_opens m (pool H) none.1) (silent_now H client n op m k u)
-    (held_no_close K (site K m) m k (work K m) (ap scope (kept_work H client n op m x u.apart) ∙ u.inner))
     ∙ replies_first (has_to_reply K m) (asks_again (tries K m)) (together (not (is_own_step K m)) (is_settled_for K m) (ap not apart) settled)
   where
     apart_from : (a b : ℕ) → a ≢ b → b ≡ a → ⊥

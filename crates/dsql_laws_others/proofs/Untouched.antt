@@ -2,14 +2,12 @@
 -- connections.
 use Rattle.std.proofs.Common.{◌≡◌, ◌≢◌, ℕ, ◌==◌, ◌⊎◌, Bool, true, false, ◌||◌, List, [], ◌∷◌, refl, sym, ap, ◌∙◌, not, ◌&&◌, cond, ◌++◌, Option, Some, None, is_some, is_none, subst, inl, inr}
 use Rattle.std.proofs.lemmas.Bool.{or_right}
-use Rattle.std.specs.List.{list_all, list_any}
+use Rattle.std.specs.List.{list_all}
 use Rattle.dsql_laws_calls.proofs.laws.Tests.{both, together, same_itself, same_number, other_number}
 use Rattle.std.specs.Prelude.{find, option_map}
 use Rattle.dsql_laws_calls.specs.course.declared.course.Wish.{Wish}
 use Rattle.dsql_laws_calls.specs.course.Made.{or_else}
 use Rattle.dsql_laws_calls.specs.driver.declared.call.DriverCall.{DriverCall}
-use Rattle.dsql_laws_calls.specs.journal.declared.entry.Owner.{Owner}
-use Rattle.dsql_laws_calls.specs.journal.declared.entry.Owner.TheVariants.{Pin}
 use Rattle.dsql_laws_calls.specs.journal.Kinds.{number_of}
 use Rattle.dsql_laws_calls.specs.journal.Readers.{has}
 use Rattle.dsql_laws_calls.specs.wait.declared.request.Request.{Request}
@@ -26,31 +24,25 @@ use Rattle.dsql_laws_calls.specs.history.declared.record.Stand.{Stand}
 use Rattle.dsql_laws_calls.specs.history.declared.record.Stand.TheVariants as stands_at
 use Rattle.dsql_laws_calls.specs.history.Readers.Pool.{smallest, is_home, pool, place, request}
 use Rattle.dsql_laws_calls.specs.history.Readers.Tries.{asks_again, tries}
-use Rattle.dsql_laws_calls.specs.history.Rules.Stands.{stands, opens, lingers_on, is_own_step, is_settled_for, has_to_reply, stand}
+use Rattle.dsql_laws_calls.specs.history.Rules.Stands.{stands, opens, is_own_step, is_settled_for, has_to_reply, stand}
 use Rattle.dsql_laws_calls.proofs.Lists.{has-without}
 use Rattle.dsql_laws_calls.specs.history.declared.event.Event.{Event}
 use Rattle.dsql_laws_calls.specs.history.declared.event.Event.TheVariants.{Waits, Replied}
 use Rattle.dsql_laws_calls.specs.history.declared.reply.Reply.{Reply}
-use Rattle.dsql_laws_calls.specs.history.Readers.Calls.{site, has_begun_to_send, decided, unpinned_with, told_by_others, told_of_work, asks_nothing, rests, rests_with}
+use Rattle.dsql_laws_calls.specs.history.Readers.Calls.{site, has_begun_to_send, decided, told_by_others, asks_nothing, rests, rests_with}
 use Rattle.dsql_laws_calls.specs.history.Readers.Controls.{told}
 use Rattle.dsql_laws_calls.specs.history.Readers.Course.{caps}
 use Rattle.dsql_laws_calls.specs.history.Readers.Unfinished.{unfinished, is_unfinished}
-use Rattle.dsql_laws_calls.specs.history.Readers.Works.{work, scope}
-use Rattle.dsql_laws_calls.specs.history.declared.work.Scope.TheVariants.{Pinned}
-use Rattle.dsql_laws_calls.specs.history.declared.work.Work.{Work}
-use Rattle.dsql_laws_calls.specs.history.declared.work.Work.TheVariants.{Statement, BeginOn, PingOn}
-use Rattle.dsql_laws_calls.specs.history.Readers.Pins.{end_of_pin, pin_goes_on}
+use Rattle.dsql_laws_calls.specs.history.Readers.Works.{work}
 use Rattle.dsql_laws_calls.specs.history.Rules.Ending.{ending}
 use Rattle.dsql_laws_calls.specs.history.Rules.Line.{due_for, is_used}
 use Rattle.dsql_laws_calls.specs.history.Rules.Replies.{gave_back}
 use Rattle.dsql_laws_calls.specs.history.Rules.Sent.{line_of}
-use Rattle.dsql_laws_calls.specs.history.Rules.Settled.{is_in_use, is_kept, keeps_pin, uses_what_is_lent, calls_stand_but, calls_stand}
+use Rattle.dsql_laws_calls.specs.history.Rules.Settled.{is_in_use, is_kept, uses_what_is_lent, calls_stand_but, calls_stand}
 use Rattle.dsql_laws_calls.proofs.Works.{other_replied}
 use Rattle.dsql_laws_calls.proofs.Enders.{same_ender}
 use Rattle.dsql_laws_calls.proofs.laws_work.Rows.{same_or_not}
 use Rattle.dsql_laws_others.proofs.Alike.{Alike, due_alike, used_alike, lent_alike, line_asked, ends_alike, closings_alike, same_tx_ender, replied_lines}
-use Rattle.dsql_laws_others.specs.Beside.{is_of_pin, has_pin, PinsUsedAlike}
-use Rattle.dsql_laws_others.proofs.Pins.{PinsAlike, keeps_as, linger_as, other_pin, due_on_pin, replied_pin_end, still_pinned, within_as, unpins_as}
 use Rattle.dsql_laws_others.proofs.Settling.{apart_of, each_stands}
 
 -- Lent connections are in use as before.
@@ -64,44 +56,8 @@ replied_ends : (H : List Event) (n : ℕ) (reply : Reply) (k : ℕ) → ending (
 replied_ends H n reply k =
     let K = Replied n reply ∷ H in ends_alike H K k refl refl refl (record { first = closings_alike H K k refl (λ j. refl) (replied_lines H n reply); can = refl; heard = refl })
 
-replied_pins : (H : List Event) (n : ℕ) (reply : Reply) → PinsAlike H (Replied n reply ∷ H)
-replied_pins H n reply = record {
-  same_works = refl;
-  rows = λ j. refl;
-  txs = λ k. refl;
-  ends = replied_pin_end H n reply;
-  can = refl;
-  lines = replied_lines H n reply;
-  homes = λ p. inl (refl, refl, refl);
-}
-
--- Holds if the reply leaves whether a call on the pin of call n may begin to send.
-abbrev NewPin : List Event → ℕ → Reply → ℕ → Type 0
-NewPin H n reply m =
-    scope (work H m) ≡ Pinned n → has_begun_to_send H m ≡ false → (pin_goes_on (Replied n reply ∷ H) n && is_none (decided H m)) ≡ (pin_goes_on H n && is_none (decided H m))
-
-replied_pinned : (H : List Event) (n : ℕ) (reply : Reply) (m : ℕ) → m ≢ n → NewPin H n reply m → (p : ℕ) → scope (work H m) ≡ Pinned p → has_begun_to_send H m ≡ false
-    → (pin_goes_on (Replied n reply ∷ H) p && is_none (decided (Replied n reply ∷ H) m)) ≡ (pin_goes_on H p && is_none (decided H m))
-replied_pinned H n reply m apart new p is unsent = ap (λ r. pin_goes_on (Replied n reply ∷ H) p && is_none r.decided) (other_replied H n reply m apart) ∙ by (same_or_not p n)
-  where
-    by : (p ≡ n) ⊎ (p ≢ n) → (pin_goes_on (Replied n reply ∷ H) p && is_none (decided H m)) ≡ (pin_goes_on H p && is_none (decided H m))
-    by (inl same) =
-        subst (λ q. (pin_goes_on (Replied n reply ∷ H) q && is_none (decided H m)) ≡ (pin_goes_on H q && is_none (decided H m))) (sym same) (new (is ∙ ap Pinned same) unsent)
-    by (inr other) = ap (λ o. (is_some o && not (is_some (end_of_pin o))) && is_none (decided H m)) (other_pin H n reply p other)
-
--- A call on that pin was refused if it entered before the pin was made.
-refused_new : (H : List Event) (n : ℕ) (reply : Reply) (m : ℕ) → (scope (work H m) ≡ Pinned n → is_some (decided H m) ≡ true) → NewPin H n reply m
-refused_new H n reply m refused is unsent = none (pin_goes_on (Replied n reply ∷ H) n) (pin_goes_on H n) (decided H m) (refused is)
-  where
-    none : (a b : Bool) (o : Option Reply) → is_some o ≡ true → (a && is_none o) ≡ (b && is_none o)
-    none a b None h = absurd cc
-    none true true (Some r) h = refl
-    none true false (Some r) h = refl
-    none false true (Some r) h = refl
-    none false false (Some r) h = refl
-
-replied_alike : (H : List Event) (n : ℕ) (reply : Reply) (m : ℕ) → m ≢ n → NewPin H n reply m → Alike H (Replied n reply ∷ H) m
-replied_alike H n reply m apart new = record {
+replied_alike : (H : List Event) (n : ℕ) (reply : Reply) (m : ℕ) → m ≢ n → Alike H (Replied n reply ∷ H) m
+replied_alike H n reply m apart = record {
   unfinished = other_unfinished H n reply m apart;
   its_work = refl;
   live = λ k. refl;
@@ -112,33 +68,14 @@ replied_alike H n reply m apart new = record {
   endings = replied_ends H n reply;
   lines = λ j w its. replied_lines H n reply j w;
   sent = inl refl;
-  pinned = replied_pinned H n reply m apart new;
   decided = ap (λ r. r.decided) (other_replied H n reply m apart);
-  within = λ p k its. within_as H (Replied n reply ∷ H) (replied_pins H n reply) p k;
-  unpins = λ p its. unpins_as H (Replied n reply) (replied_pins H n reply) m p;
 }
 
-pub due_replied : (H : List Event) (n : ℕ) (reply : Reply) (m : ℕ) → m ≢ n → (scope (work H m) ≡ Pinned n → is_some (decided H m) ≡ true) → due_for (Replied n reply ∷ H) m ≡ due_for H m
-due_replied H n reply m apart new = due_alike H (Replied n reply ∷ H) m (replied_alike H n reply m apart (refused_new H n reply m new))
-
--- What was due is still due in any case.
-pub still_due : (H : List Event) (n : ℕ) (reply : Reply) (m : ℕ) → m ≢ n → is_some (due_for H m) ≡ true → is_some (due_for (Replied n reply ∷ H) m) ≡ true
-still_due H n reply m apart h = ap (λ d. is_some d) (due_alike H (Replied n reply ∷ H) m (replied_alike H n reply m apart new)) ∙ h
-  where
-    begins : (s : Bool) → s ≡ false → (s || (pin_goes_on H n && is_none (decided H m))) ≡ true → (pin_goes_on H n && is_none (decided H m)) ≡ true
-    begins true x y = absurd cc
-    begins false x y = y
-
-    new : NewPin H n reply m
-    new is unsent =
-        let goes = both (pin_goes_on H n) (is_none (decided H m)) (begins (has_begun_to_send H m) unsent (due_on_pin H m n is h)) in
-        ap (λ b. b && is_none (decided H m)) (still_pinned H n reply n goes.0 ∙ sym goes.0)
+pub due_replied : (H : List Event) (n : ℕ) (reply : Reply) (m : ℕ) → m ≢ n → due_for (Replied n reply ∷ H) m ≡ due_for H m
+due_replied H n reply m apart = due_alike H (Replied n reply ∷ H) m (replied_alike H n reply m apart)
 
 waits_lines : (H : List Event) (k : ℕ) (n : ℕ) (w : Wish) → line_of (Waits k ∷ H) n w ≡ line_of H n w
 waits_lines H k n w = line_asked H (Waits k ∷ H) n w (site H n) (place H (site H n)) (record { asked = refl; resets = refl; can = refl; its_work = refl; uses = refl; heard = refl })
-
-waits_pins : (H : List Event) (k : ℕ) → PinsAlike H (Waits k ∷ H)
-waits_pins H k = record { same_works = refl; rows = λ j. refl; txs = λ j. refl; ends = λ p. refl; can = refl; lines = waits_lines H k; homes = λ p. inl (refl, refl, refl) }
 
 waits_ends : (H : List Event) (n k : ℕ) → ending (Waits n ∷ H) k ≡ ending H k
 waits_ends H n k = let K = Waits n ∷ H in ends_alike H K k refl refl refl (record { first = closings_alike H K k refl (λ j. refl) (waits_lines H n); can = refl; heard = refl })
@@ -157,10 +94,7 @@ due_waits H k m =
       endings = waits_ends H k;
       lines = λ j w its. waits_lines H k j w;
       sent = inl refl;
-      pinned = λ p its unsent. refl;
       decided = refl;
-      within = λ p j its. within_as H (Waits k ∷ H) (waits_pins H k) p j;
-      unpins = λ p its. unpins_as H (Waits k) (waits_pins H k) m p;
     })
 
 control_lines : (H : List Event) (control : Control) (n : ℕ) (w : Wish) → line_of (told control ∷ H) n w ≡ line_of H n w
@@ -176,13 +110,6 @@ control_ends H (Set MaxOpen k) j = let K = told (Set MaxOpen k) ∷ H in ends_al
 control_ends H (Set MaxIdle k) j = let K = told (Set MaxIdle k) ∷ H in ends_alike H K j refl refl refl (record { first = closings_alike H K j refl (λ i. refl) (control_lines H (Set MaxIdle k)); can = refl; heard = refl })
 control_ends H (Set MaxLife k) j = let K = told (Set MaxLife k) ∷ H in ends_alike H K j refl refl refl (record { first = closings_alike H K j refl (λ i. refl) (control_lines H (Set MaxLife k)); can = refl; heard = refl })
 control_ends H (Set MaxIdleTime k) j = let K = told (Set MaxIdleTime k) ∷ H in ends_alike H K j refl refl refl (record { first = closings_alike H K j refl (λ i. refl) (control_lines H (Set MaxIdleTime k)); can = refl; heard = refl })
-
-control_pins : (H : List Event) (control : Control) → PinsAlike H (told control ∷ H)
-control_pins H (Tick k) = record { same_works = refl; rows = λ j. refl; txs = λ j. refl; ends = λ p. refl; can = refl; lines = control_lines H (Tick k); homes = λ p. inl (refl, refl, refl) }
-control_pins H (Set MaxOpen k) = record { same_works = refl; rows = λ j. refl; txs = λ j. refl; ends = λ p. refl; can = refl; lines = control_lines H (Set MaxOpen k); homes = λ p. inl (refl, refl, refl) }
-control_pins H (Set MaxIdle k) = record { same_works = refl; rows = λ j. refl; txs = λ j. refl; ends = λ p. refl; can = refl; lines = control_lines H (Set MaxIdle k); homes = λ p. inl (refl, refl, refl) }
-control_pins H (Set MaxLife k) = record { same_works = refl; rows = λ j. refl; txs = λ j. refl; ends = λ p. refl; can = refl; lines = control_lines H (Set MaxLife k); homes = λ p. inl (refl, refl, refl) }
-control_pins H (Set MaxIdleTime k) = record { same_works = refl; rows = λ j. refl; txs = λ j. refl; ends = λ p. refl; can = refl; lines = control_lines H (Set MaxIdleTime k); homes = λ p. inl (refl, refl, refl) }
 
 control_sent : (H : List Event) (control : Control) (m : ℕ) → has_begun_to_send (told control ∷ H) m ≡ has_begun_to_send H m
 control_sent H (Set MaxOpen k) m = refl
@@ -202,10 +129,7 @@ due_control H (Tick k) m =
       endings = control_ends H (Tick k);
       lines = λ j w its. control_lines H (Tick k) j w;
       sent = inl (control_sent H (Tick k) m);
-      pinned = λ p its unsent. refl;
       decided = refl;
-      within = λ p j its. within_as H (told (Tick k) ∷ H) (control_pins H (Tick k)) p j;
-      unpins = λ p its. unpins_as H (told (Tick k)) (control_pins H (Tick k)) m p;
     })
 due_control H (Set s k) m =
     due_alike H (told (Set s k) ∷ H) m
@@ -220,10 +144,7 @@ due_control H (Set s k) m =
       endings = control_ends H (Set s k);
       lines = λ j w its. control_lines H (Set s k) j w;
       sent = inl (control_sent H (Set s k) m);
-      pinned = λ p its unsent. refl;
       decided = refl;
-      within = λ p j its. within_as H (told (Set s k) ∷ H) (control_pins H (Set s k)) p j;
-      unpins = λ p its. unpins_as H (told (Set s k)) (control_pins H (Set s k)) m p;
     })
 
 -- Lent connections are in use as before.
@@ -237,49 +158,20 @@ restless : (H : List Event) (n : ℕ) (reply : Reply) → rests (Replied n reply
 restless H n reply =
     ap (λ b. b && asks_nothing (caps H) (work H n) (tries H n)) (has-without n n (unfinished H) ∙ ap (λ b. not b && has n (unfinished H)) (same_itself n))
 
--- Holds if each pin with one of these connections has one in the history.
-abbrev pub Within : List Event → List Conn → Type 0
-Within H conns = (p : ℕ) → list_any (λ conn. is_of_pin p conn.place) conns ≡ true → has_pin H p ≡ true
-
-pub within_rest : (H : List Event) (x : Conn) (xs : List Conn) → Within H (x ∷ xs) → Within H xs
-within_rest H x xs all p h = all p (later (is_of_pin p x.place) h)
-  where
-    later : (b : Bool) → list_any (λ conn. is_of_pin p conn.place) xs ≡ true → (b || list_any (λ conn. is_of_pin p conn.place) xs) ≡ true
-    later true k = refl
-    later false k = k
-
-pub within_first : (H : List Event) (x : Conn) (xs : List Conn) → Within H (x ∷ xs) → (p : ℕ) → is_of_pin p x.place ≡ true → has_pin H p ≡ true
-within_first H x xs all p h = all p (ap (λ b. b || list_any (λ conn. is_of_pin p conn.place) xs) h)
-
-all_but : (H : List Event) (h q r : Conn → Bool) (conns : List Conn) → Within H conns → find h conns ≡ None → ((x : Conn) → h x ≡ false → ((p : ℕ) → is_of_pin p x.place ≡ true → has_pin H p ≡ true) → q x ≡ r x) → list_all q conns ≡ list_all r conns
-all_but H h q r [] all none same = refl
-all_but H h q r (x ∷ xs) all none same = by (λ k. all_but H h q r xs (within_rest H x xs all) k same) (h x) refl none
+all_but : (h q r : Conn → Bool) (conns : List Conn) → find h conns ≡ None → ((x : Conn) → h x ≡ false → q x ≡ r x) → list_all q conns ≡ list_all r conns
+all_but h q r [] none same = refl
+all_but h q r (x ∷ xs) none same = by (λ k. all_but h q r xs k same) (h x) refl none
   where
     by : (find h xs ≡ None → list_all q xs ≡ list_all r xs) → (b : Bool) → h x ≡ b → cond b (Some x) (find h xs) ≡ None → list_all q (x ∷ xs) ≡ list_all r (x ∷ xs)
     by rest true is k = absurd cc
-    by rest false is k = ap (λ b. b && list_all q xs) (same x is (within_first H x xs all)) ∙ ap (λ b. r x && b) (rest k)
-
-pub all_in : (H : List Event) (q r : Conn → Bool) (conns : List Conn) → Within H conns → ((x : Conn) → ((p : ℕ) → is_of_pin p x.place ≡ true → has_pin H p ≡ true) → q x ≡ r x) → list_all q conns ≡ list_all r conns
-all_in H q r [] all same = refl
-all_in H q r (x ∷ xs) all same = ap (λ b. b && list_all q xs) (same x (within_first H x xs all)) ∙ ap (λ b. r x && b) (all_in H q r xs (within_rest H x xs all) same)
-
--- A pin is in use as before if the pins that have connections are.
-pin_same : (H K : List Event) (t : ℕ) (own : Owner) → PinsUsedAlike H K → ((p : ℕ) → is_of_pin p (Lent t own) ≡ true → has_pin H p ≡ true) → keeps_pin K own ≡ keeps_pin H own
-pin_same H K t (Pin p) alike has_it = alike p (has_it p (same_itself p))
-pin_same H K t own alike has_it = refl
+    by rest false is k = ap (λ b. b && list_all q xs) (same x is) ∙ ap (λ b. r x && b) (rest k)
 
 none_found : (o : Option Conn) → is_none (option_map (λ conn. conn.number) o) ≡ true → o ≡ None
 none_found None h = refl
 none_found (Some x) h = absurd cc
 
--- A connection is in use as before if its borrower's use is, and the pins' use is.
-pub in_use_as : (H K : List Event) (at : Place) → ((k : ℕ) → is_kept K k ≡ is_kept H k) → PinsUsedAlike H K → ((p : ℕ) → is_of_pin p at ≡ true → has_pin H p ≡ true) → is_in_use K at ≡ is_in_use H at
-in_use_as H K (Lent t owner) each pins has_it = ap (λ b. b || keeps_pin K owner) (each (number_of owner)) ∙ ap (λ b. is_kept H (number_of owner) || b) (pin_same H K t owner pins has_it)
-in_use_as H K _ each pins has_it = refl
-
--- So it is after a reply, except for a pin that only the reply lets go or takes.
-pub used_replied : (H : List Event) (n : ℕ) (reply : Reply) → gave_back H n ≡ true → PinsUsedAlike H (Replied n reply ∷ H) → uses_what_is_lent (Replied n reply ∷ H) ≡ uses_what_is_lent H
-used_replied H n reply gave pins = by (rests H n) refl gave
+pub used_replied : (H : List Event) (n : ℕ) (reply : Reply) → gave_back H n ≡ true → uses_what_is_lent (Replied n reply ∷ H) ≡ uses_what_is_lent H
+used_replied H n reply gave = by (rests H n) refl gave
   where
     K : List Event
     K = Replied n reply ∷ H
@@ -293,16 +185,15 @@ used_replied H n reply gave pins = by (rests H n) refl gave
     others : (k : ℕ) → k ≢ n → is_kept K k ≡ is_kept H k
     others k apart = kept k (rests_replied H n reply k apart)
 
-    beside : (at : Place) → is_home n at ≡ false → ((p : ℕ) → is_of_pin p at ≡ true → has_pin H p ≡ true) → is_in_use K at ≡ is_in_use H at
-    beside (Lent t owner) away has_it =
-        ap (λ b. b || keeps_pin K owner) (others (number_of owner) (apart_of (number_of owner) n away)) ∙ ap (λ b. is_kept H (number_of owner) || b) (pin_same H K t owner pins has_it)
-    beside _ away has_it = refl
+    beside : (p : Place) → is_home n p ≡ false → is_in_use K p ≡ is_in_use H p
+    beside (Lent t owner) away = others (number_of owner) (apart_of (number_of owner) n away)
+    beside _ away = refl
 
     by : (b : Bool) → rests H n ≡ b → is_none (cond b (smallest (is_home n) (pool H)) None) ≡ true → uses_what_is_lent K ≡ uses_what_is_lent H
     by true is gone =
-        all_but H (λ conn. is_home n conn.place) (λ conn. is_in_use K conn.place) (λ conn. is_in_use H conn.place) (pool H).conns (λ p h. h)
+        all_but (λ conn. is_home n conn.place) (λ conn. is_in_use K conn.place) (λ conn. is_in_use H conn.place) (pool H).conns
         (none_found (find (λ conn. is_home n conn.place) (pool H).conns) gone) (λ x. beside x.place)
-    by false is gone = all_in H (λ conn. is_in_use K conn.place) (λ conn. is_in_use H conn.place) (pool H).conns (λ p h. h) (λ x. in_use_as H K x.place each pins)
+    by false is gone = lent_alike H K refl each
       where
         each : (k : ℕ) → is_kept K k ≡ is_kept H k
         each k = of (k == n) refl
@@ -312,43 +203,38 @@ used_replied H n reply gave pins = by (rests H n) refl gave
             of false other = others k (apart_of k n other)
 
 pub used_waits : (H : List Event) (n : ℕ) → uses_what_is_lent (Waits n ∷ H) ≡ uses_what_is_lent H
-used_waits H n =
-    lent_alike H (Waits n ∷ H) refl (λ k. ap (λ b. b || rests H k) (used_alike H (Waits n ∷ H) k refl refl (waits_ends H n k) (waits_lines H n k)))
-    (keeps_as H (Waits n) (record { pins = waits_pins H n; going = λ p. refl; waiting = refl; tried = λ p. refl; dues = due_waits H n; at = λ p. refl; sites = λ m. refl; places = λ c. refl; heard = λ c. refl; quiet = λ c. refl }))
+used_waits H n = lent_alike H (Waits n ∷ H) refl (λ k. ap (λ b. b || rests H k) (used_alike H (Waits n ∷ H) k refl refl (waits_ends H n k) (waits_lines H n k)))
 
 pub used_control : (H : List Event) (control : Control) → uses_what_is_lent (told control ∷ H) ≡ uses_what_is_lent H
-used_control H (Tick k) = lent_alike H (told (Tick k) ∷ H) refl (λ n. ap (λ b. b || rests H n) (used_alike H (told (Tick k) ∷ H) n refl refl (control_ends H (Tick k) n) (control_lines H (Tick k) n))) (keeps_as H (told (Tick k)) (record { pins = control_pins H (Tick k); going = λ p. refl; waiting = refl; tried = λ p. refl; dues = due_control H (Tick k); at = λ p. refl; sites = λ m. refl; places = λ c. refl; heard = λ c. refl; quiet = λ c. refl }))
-used_control H (Set MaxOpen k) = lent_alike H (told (Set MaxOpen k) ∷ H) refl (λ n. ap (λ b. b || rests H n) (used_alike H (told (Set MaxOpen k) ∷ H) n refl refl (control_ends H (Set MaxOpen k) n) (control_lines H (Set MaxOpen k) n))) (keeps_as H (told (Set MaxOpen k)) (record { pins = control_pins H (Set MaxOpen k); going = λ p. refl; waiting = refl; tried = λ p. refl; dues = due_control H (Set MaxOpen k); at = λ p. refl; sites = λ m. refl; places = λ c. refl; heard = λ c. refl; quiet = λ c. refl }))
-used_control H (Set MaxIdle k) = lent_alike H (told (Set MaxIdle k) ∷ H) refl (λ n. ap (λ b. b || rests H n) (used_alike H (told (Set MaxIdle k) ∷ H) n refl refl (control_ends H (Set MaxIdle k) n) (control_lines H (Set MaxIdle k) n))) (keeps_as H (told (Set MaxIdle k)) (record { pins = control_pins H (Set MaxIdle k); going = λ p. refl; waiting = refl; tried = λ p. refl; dues = due_control H (Set MaxIdle k); at = λ p. refl; sites = λ m. refl; places = λ c. refl; heard = λ c. refl; quiet = λ c. refl }))
-used_control H (Set MaxLife k) = lent_alike H (told (Set MaxLife k) ∷ H) refl (λ n. ap (λ b. b || rests H n) (used_alike H (told (Set MaxLife k) ∷ H) n refl refl (control_ends H (Set MaxLife k) n) (control_lines H (Set MaxLife k) n))) (keeps_as H (told (Set MaxLife k)) (record { pins = control_pins H (Set MaxLife k); going = λ p. refl; waiting = refl; tried = λ p. refl; dues = due_control H (Set MaxLife k); at = λ p. refl; sites = λ m. refl; places = λ c. refl; heard = λ c. refl; quiet = λ c. refl }))
-used_control H (Set MaxIdleTime k) = lent_alike H (told (Set MaxIdleTime k) ∷ H) refl (λ n. ap (λ b. b || rests H n) (used_alike H (told (Set MaxIdleTime k) ∷ H) n refl refl (control_ends H (Set MaxIdleTime k) n) (control_lines H (Set MaxIdleTime k) n))) (keeps_as H (told (Set MaxIdleTime k)) (record { pins = control_pins H (Set MaxIdleTime k); going = λ p. refl; waiting = refl; tried = λ p. refl; dues = due_control H (Set MaxIdleTime k); at = λ p. refl; sites = λ m. refl; places = λ c. refl; heard = λ c. refl; quiet = λ c. refl }))
+used_control H (Tick k) = lent_alike H (told (Tick k) ∷ H) refl (λ n. ap (λ b. b || rests H n) (used_alike H (told (Tick k) ∷ H) n refl refl (control_ends H (Tick k) n) (control_lines H (Tick k) n)))
+used_control H (Set MaxOpen k) = lent_alike H (told (Set MaxOpen k) ∷ H) refl (λ n. ap (λ b. b || rests H n) (used_alike H (told (Set MaxOpen k) ∷ H) n refl refl (control_ends H (Set MaxOpen k) n) (control_lines H (Set MaxOpen k) n)))
+used_control H (Set MaxIdle k) = lent_alike H (told (Set MaxIdle k) ∷ H) refl (λ n. ap (λ b. b || rests H n) (used_alike H (told (Set MaxIdle k) ∷ H) n refl refl (control_ends H (Set MaxIdle k) n) (control_lines H (Set MaxIdle k) n)))
+used_control H (Set MaxLife k) = lent_alike H (told (Set MaxLife k) ∷ H) refl (λ n. ap (λ b. b || rests H n) (used_alike H (told (Set MaxLife k) ∷ H) n refl refl (control_ends H (Set MaxLife k) n) (control_lines H (Set MaxLife k) n)))
+used_control H (Set MaxIdleTime k) = lent_alike H (told (Set MaxIdleTime k) ∷ H) refl (λ n. ap (λ b. b || rests H n) (used_alike H (told (Set MaxIdleTime k) ∷ H) n refl refl (control_ends H (Set MaxIdleTime k) n) (control_lines H (Set MaxIdleTime k) n)))
 
 -- Where each call stands.
 
-abbrev pub standing : Bool → Option ℕ → Option DriverCall → ℕ → Option Stand → Bool → Bool → Option Stand
-standing waiting opening due there lingers replies again =
+abbrev pub standing : Bool → Option ℕ → Option DriverCall → ℕ → Bool → Bool → Option Stand
+standing waiting opening due there replies again =
     or_else (stands waiting stands_at.Waits)
-    (or_else (opens opening) (or_else (stands (is_some due) (stands_at.Sends there)) (or_else lingers (or_else (stands replies stands_at.Replies) (stands again stands_at.Asks)))))
+    (or_else (opens opening) (or_else (stands (is_some due) (stands_at.Sends there)) (or_else (stands replies stands_at.Replies) (stands again stands_at.Asks))))
 
-neither : {A : Type 0} → (false ≡ true) ⊎ (false ≡ true) → A
-neither (inl x) = absurd cc
-neither (inr x) = absurd cc
-
--- A call for which something was due, or which lingered on its pin, stands somewhere if it still does or its reply is
--- settled.
-pub goes_or_told : (v w : Bool) (o p : Option ℕ) (d e : Option DriverCall) (a b : ℕ) (x y : Option Stand) (r s g : Bool) → (v ≡ true → w ≡ true) → (is_some o ≡ true → is_some p ≡ true) → (is_some d ≡ true → (is_some e ≡ true) ⊎ (s ≡ true))
-    → (is_some x ≡ true → (is_some y ≡ true) ⊎ (s ≡ true)) → (r ≡ true → s ≡ true) → is_some (standing v o d a x r g) ≡ true → is_some (standing w p e b y s g) ≡ true
-goes_or_told v true o p d e a b x y r s g wait opening due linger reply h = refl
-goes_or_told true false o p d e a b x y r s g wait opening due linger reply h = let clash : false ≡ true = wait refl in absurd cc
-goes_or_told false false o (Some c) d e a b x y r s g wait opening due linger reply h = refl
-goes_or_told false false (Some c) None d e a b x y r s g wait opening due linger reply h = let clash : false ≡ true = opening refl in absurd cc
-goes_or_told false false None None d (Some q) a b x y r s g wait opening due linger reply h = refl
-goes_or_told false false None None d None a b x (Some z) r s g wait opening due linger reply h = refl
-goes_or_told false false None None d None a b x None r true g wait opening due linger reply h = refl
-goes_or_told false false None None (Some q) None a b x None r false g wait opening due linger reply h = neither (due refl)
-goes_or_told false false None None None None a b (Some z) None r false g wait opening due linger reply h = neither (linger refl)
-goes_or_told false false None None None None a b None None true false g wait opening due linger reply h = let clash : false ≡ true = reply refl in absurd cc
-goes_or_told false false None None None None a b None None false false g wait opening due linger reply h = h
+-- A call for which something was due stands somewhere if something is still due or its reply is settled.
+pub goes_or_told : (v w : Bool) (o p : Option ℕ) (d e : Option DriverCall) (a b : ℕ) (r s g : Bool) → (v ≡ true → w ≡ true) → (is_some o ≡ true → is_some p ≡ true) → (is_some d ≡ true → (is_some e ≡ true) ⊎ (s ≡ true)) → (r ≡ true → s ≡ true)
+    → is_some (standing v o d a r g) ≡ true → is_some (standing w p e b s g) ≡ true
+goes_or_told v true o p d e a b r s g wait opening due reply h = refl
+goes_or_told true false o p d e a b r s g wait opening due reply h = let clash : false ≡ true = wait refl in absurd cc
+goes_or_told false false o (Some c) d e a b r s g wait opening due reply h = refl
+goes_or_told false false (Some c) None d e a b r s g wait opening due reply h = let clash : false ≡ true = opening refl in absurd cc
+goes_or_told false false None None d (Some q) a b r s g wait opening due reply h = refl
+goes_or_told false false None None d None a b r true g wait opening due reply h = refl
+goes_or_told false false None None (Some q) None a b r false g wait opening due reply h = neither (due refl)
+  where
+    neither : {A : Type 0} → (false ≡ true) ⊎ (false ≡ true) → A
+    neither (inl x) = absurd cc
+    neither (inr x) = absurd cc
+goes_or_told false false None None None None a b true false g wait opening due reply h = let clash : false ≡ true = reply refl in absurd cc
+goes_or_told false false None None None None a b false false g wait opening due reply h = h
 
 -- A call that has to reply still has to after an event. Its settled reply has to stay settled, and the event may not
 -- put it into a step of its own.
@@ -363,39 +249,27 @@ has_still false false was is step more h = more h
 
 -- A call still stands somewhere if each reason for that stays.
 pub still_stands : (H K : List Event) (m : ℕ) → tries K m ≡ tries H m → (waits m (pool H).waiting ≡ true → waits m (pool K).waiting ≡ true) → (is_some (smallest (is_for m) (pool H)) ≡ true → is_some (smallest (is_for m) (pool K)) ≡ true)
-    → (is_some (due_for H m) ≡ true → is_some (due_for K m) ≡ true) → (is_some (lingers_on H (site H m) m (work H m)) ≡ true → (is_some (lingers_on K (site K m) m (work K m)) ≡ true) ⊎ (has_to_reply K m ≡ true))
-    → (is_own_step K m ≡ true → is_own_step H m ≡ true) → (is_settled_for H m ≡ true → is_settled_for K m ≡ true) → is_some (stand H m) ≡ true → is_some (stand K m) ≡ true
-still_stands H K m tried waiting opening due lingers step settled h =
-    ap (λ ts. is_some (standing (waits m (pool K).waiting) (smallest (is_for m) (pool K)) (due_for K m) (site K m) (lingers_on K (site K m) m (work K m)) (has_to_reply K m) (asks_again ts))) tried
-    ∙ goes_or_told (waits m (pool H).waiting) (waits m (pool K).waiting) (smallest (is_for m) (pool H)) (smallest (is_for m) (pool K)) (due_for H m) (due_for K m) (site H m) (site K m)
-    (lingers_on H (site H m) m (work H m)) (lingers_on K (site K m) m (work K m)) (has_to_reply H m) (has_to_reply K m) (asks_again (tries H m))
-    waiting opening (λ x. inl (due x)) lingers (has_still (is_own_step K m) (is_own_step H m) (is_settled_for H m) (is_settled_for K m) step settled) h
-
-told_replied : (H : List Event) (n : ℕ) (reply : Reply) (m : ℕ) → told_by_others (Replied n reply ∷ H) m ≡ told_by_others H m
-told_replied H n reply m = by (work H m)
-  where
-    by : (w : Work) → told_of_work (Replied n reply ∷ H) m w ≡ told_of_work H m w
-    by (Statement (Pinned p) task) = ap (λ e. cond (has_begun_to_send H m) None (unpinned_with e)) (replied_pin_end H n reply p)
-    by (BeginOn p label level read_only) = ap (λ e. cond (has_begun_to_send H m) None (unpinned_with e)) (replied_pin_end H n reply p)
-    by (PingOn p) = ap (λ e. cond (has_begun_to_send H m) None (unpinned_with e)) (replied_pin_end H n reply p)
-    by w = refl
+    → (is_some (due_for H m) ≡ true → is_some (due_for K m) ≡ true) → (is_own_step K m ≡ true → is_own_step H m ≡ true) → (is_settled_for H m ≡ true → is_settled_for K m ≡ true) → is_some (stand H m) ≡ true → is_some (stand K m) ≡ true
+still_stands H K m tried waiting opening due step settled h =
+    ap (λ ts. is_some (standing (waits m (pool K).waiting) (smallest (is_for m) (pool K)) (due_for K m) (site K m) (has_to_reply K m) (asks_again ts))) tried
+    ∙ goes_or_told (waits m (pool H).waiting) (waits m (pool K).waiting) (smallest (is_for m) (pool H)) (smallest (is_for m) (pool K)) (due_for H m) (due_for K m) (site H m) (site K m) (has_to_reply H m) (has_to_reply K m) (asks_again (tries H m))
+    waiting opening (λ x. inl (due x)) (has_still (is_own_step K m) (is_own_step H m) (is_settled_for H m) (is_settled_for K m) step settled) h
 
 settled_replied : (H : List Event) (n : ℕ) (reply : Reply) (m : ℕ) → m ≢ n → is_settled_for (Replied n reply ∷ H) m ≡ is_settled_for H m
 settled_replied H n reply m apart =
-    ap (λ b. is_some (cond b (smallest (is_home m) (pool H)) None) || (is_none (decided (Replied n reply ∷ H) m) && is_some (told_by_others (Replied n reply ∷ H) m))) (rests_replied H n reply m apart)
-    ∙ (ap (λ x. is_some (rests_with H m) || (is_none x && is_some (told_by_others (Replied n reply ∷ H) m))) (ap (λ r. r.decided) (other_replied H n reply m apart))
-    ∙ ap (λ o. is_some (rests_with H m) || (is_none (decided H m) && is_some o)) (told_replied H n reply m))
+    ap (λ b. is_some (cond b (smallest (is_home m) (pool H)) None) || (is_none (decided (Replied n reply ∷ H) m) && is_some (told_by_others H m))) (rests_replied H n reply m apart)
+    ∙ ap (λ x. is_some (rests_with H m) || (is_none x && is_some (told_by_others H m))) (ap (λ r. r.decided) (other_replied H n reply m apart))
 
 stand_replied : (H : List Event) (n : ℕ) (reply : Reply) (m : ℕ) → m ≢ n → is_some (stand H m) ≡ true → is_some (stand (Replied n reply ∷ H) m) ≡ true
 stand_replied H n reply m apart h =
-    still_stands H (Replied n reply ∷ H) m refl (λ x. x) (λ x. x) (still_due H n reply m apart) (λ x. inl (linger_as H (Replied n reply) (site H m) m (work H m) (replied_pin_end H n reply) ∙ x)) (λ x. absurd cc) (λ x. settled_replied H n reply m apart ∙ x) h
+    still_stands H (Replied n reply ∷ H) m refl (λ x. x) (λ x. x) (λ x. ap (λ d. is_some d) (due_replied H n reply m apart) ∙ x) (λ x. absurd cc) (λ x. settled_replied H n reply m apart ∙ x) h
 
 stand_control : (H : List Event) (control : Control) (m : ℕ) → is_some (stand H m) ≡ true → is_some (stand (told control ∷ H) m) ≡ true
-stand_control H (Tick k) m h = still_stands H (told (Tick k) ∷ H) m refl (λ x. x) (λ x. x) (λ x. ap (λ d. is_some d) (due_control H (Tick k) m) ∙ x) (λ x. inl (linger_as H (told (Tick k)) (site H m) m (work H m) (λ p. refl) ∙ x)) (λ x. absurd cc) (λ x. x) h
-stand_control H (Set MaxOpen k) m h = still_stands H (told (Set MaxOpen k) ∷ H) m refl (λ x. x) (λ x. x) (λ x. ap (λ d. is_some d) (due_control H (Set MaxOpen k) m) ∙ x) (λ x. inl (linger_as H (told (Set MaxOpen k)) (site H m) m (work H m) (λ p. refl) ∙ x)) (λ x. absurd cc) (λ x. x) h
-stand_control H (Set MaxIdle k) m h = still_stands H (told (Set MaxIdle k) ∷ H) m refl (λ x. x) (λ x. x) (λ x. ap (λ d. is_some d) (due_control H (Set MaxIdle k) m) ∙ x) (λ x. inl (linger_as H (told (Set MaxIdle k)) (site H m) m (work H m) (λ p. refl) ∙ x)) (λ x. absurd cc) (λ x. x) h
-stand_control H (Set MaxLife k) m h = still_stands H (told (Set MaxLife k) ∷ H) m refl (λ x. x) (λ x. x) (λ x. ap (λ d. is_some d) (due_control H (Set MaxLife k) m) ∙ x) (λ x. inl (linger_as H (told (Set MaxLife k)) (site H m) m (work H m) (λ p. refl) ∙ x)) (λ x. absurd cc) (λ x. x) h
-stand_control H (Set MaxIdleTime k) m h = still_stands H (told (Set MaxIdleTime k) ∷ H) m refl (λ x. x) (λ x. x) (λ x. ap (λ d. is_some d) (due_control H (Set MaxIdleTime k) m) ∙ x) (λ x. inl (linger_as H (told (Set MaxIdleTime k)) (site H m) m (work H m) (λ p. refl) ∙ x)) (λ x. absurd cc) (λ x. x) h
+stand_control H (Tick k) m h = still_stands H (told (Tick k) ∷ H) m refl (λ x. x) (λ x. x) (λ x. ap (λ d. is_some d) (due_control H (Tick k) m) ∙ x) (λ x. absurd cc) (λ x. x) h
+stand_control H (Set MaxOpen k) m h = still_stands H (told (Set MaxOpen k) ∷ H) m refl (λ x. x) (λ x. x) (λ x. ap (λ d. is_some d) (due_control H (Set MaxOpen k) m) ∙ x) (λ x. absurd cc) (λ x. x) h
+stand_control H (Set MaxIdle k) m h = still_stands H (told (Set MaxIdle k) ∷ H) m refl (λ x. x) (λ x. x) (λ x. ap (λ d. is_some d) (due_control H (Set MaxIdle k) m) ∙ x) (λ x. absurd cc) (λ x. x) h
+stand_control H (Set MaxLife k) m h = still_stands H (told (Set MaxLife k) ∷ H) m refl (λ x. x) (λ x. x) (λ x. ap (λ d. is_some d) (due_control H (Set MaxLife k) m) ∙ x) (λ x. absurd cc) (λ x. x) h
+stand_control H (Set MaxIdleTime k) m h = still_stands H (told (Set MaxIdleTime k) ∷ H) m refl (λ x. x) (λ x. x) (λ x. ap (λ d. is_some d) (due_control H (Set MaxIdleTime k) m) ∙ x) (λ x. absurd cc) (λ x. x) h
 
 waits_more : (m : ℕ) (rs : List Request) (r : Request) → waits m rs ≡ true → waits m (rs ++ r ∷ []) ≡ true
 waits_more m [] r h = absurd cc
@@ -415,7 +289,7 @@ waits_last m (q ∷ qs) r is = by (waits_last m qs r is) (q.call == m)
 
 stand_waits : (H : List Event) (n m : ℕ) → is_some (stand H m) ≡ true → is_some (stand (Waits n ∷ H) m) ≡ true
 stand_waits H n m h =
-    still_stands H (Waits n ∷ H) m refl (waits_more m (pool H).waiting (request H n)) (λ x. x) (λ x. ap (λ d. is_some d) (due_waits H n m) ∙ x) (λ x. inl (linger_as H (Waits n) (site H m) m (work H m) (λ p. refl) ∙ x)) (λ x. absurd cc) (λ x. x) h
+    still_stands H (Waits n ∷ H) m refl (waits_more m (pool H).waiting (request H n)) (λ x. x) (λ x. ap (λ d. is_some d) (due_waits H n m) ∙ x) (λ x. absurd cc) (λ x. x) h
 
 itself_waits : (H : List Event) (n : ℕ) → is_some (stand (Waits n ∷ H) n) ≡ true
 itself_waits H n = by (waits n ((pool H).waiting ++ request H n ∷ [])) (waits_last n (pool H).waiting (request H n) (same_itself n))
@@ -423,7 +297,7 @@ itself_waits H n = by (waits n ((pool H).waiting ++ request H n ∷ [])) (waits_
     K : List Event
     K = Waits n ∷ H
 
-    by : (b : Bool) → b ≡ true → is_some (standing b (smallest (is_for n) (pool H)) (due_for K n) (site H n) (lingers_on K (site H n) n (work H n)) (has_to_reply K n) (asks_again (tries H n))) ≡ true
+    by : (b : Bool) → b ≡ true → is_some (standing b (smallest (is_for n) (pool H)) (due_for K n) (site H n) (has_to_reply K n) (asks_again (tries H n))) ≡ true
     by true h = refl
     by false h = absurd cc
 

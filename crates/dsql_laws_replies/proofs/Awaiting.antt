@@ -6,7 +6,7 @@ use Rattle.dsql_laws_calls.specs.course.Made.{own_cursor}
 use Rattle.dsql_laws_calls.specs.course.declared.course.Wish.TheVariants as wishes
 use Rattle.dsql_laws_calls.specs.journal.declared.entry.Entry.{Entry}
 use Rattle.dsql_laws_calls.specs.journal.declared.entry.Owner.{Owner}
-use Rattle.dsql_laws_calls.specs.journal.Kinds.{is_call, is_pin, number_of}
+use Rattle.dsql_laws_calls.specs.journal.Kinds.{is_call, number_of}
 use Rattle.dsql_laws_calls.specs.journal.Readers.{of_tenure}
 use Rattle.dsql_laws_calls.specs.pool.declared.conn.Conn.{Conn}
 use Rattle.dsql_laws_calls.specs.pool.declared.conn.Place.TheVariants.{Lent}
@@ -19,10 +19,7 @@ use Rattle.dsql_laws_calls.specs.works.Line.{Asked, handed}
 use Rattle.dsql_laws_calls.specs.works.declared.work.Aim.TheVariants as aims
 use Rattle.dsql_laws_calls.proofs.laws_work.Rows.{same_or_not}
 use Rattle.dsql_laws_calls.proofs.Found.{place_in}
-use Rattle.dsql_laws_replies.proofs.Awaited.{is_one, awaits, awaited_due, handed_awaits}
-use Rattle.dsql_laws_replies.proofs.Pins.{work_needs, needed, hands_no_pin}
-use Rattle.dsql_laws_calls.proofs.Scopes.{makes_pin}
-use Rattle.dsql_laws_calls.proofs.DueWay.{call_no_pin}
+use Rattle.dsql_laws_replies.proofs.Awaited.{is_one, needs_answer, awaits, awaited_due, handed_awaits}
 use Rattle.dsql_laws_calls.specs.history.declared.event.Event.{Event}
 use Rattle.dsql_laws_calls.specs.history.declared.event.Event.TheVariants.{Heard, Pool}
 use Rattle.dsql_laws_calls.specs.history.declared.work.Work.{Work}
@@ -39,7 +36,7 @@ use Rattle.dsql_laws_calls.specs.history.Rules.Line.{is_used, sends_from}
 use Rattle.dsql_laws_calls.specs.history.Rules.Sent.{asked_by, is_reset_due}
 use Rattle.dsql_laws_calls.specs.history.Legal.{Allowed, Lawful}
 use Rattle.dsql_laws_calls.proofs.laws.Tried.{lends_to}
-use Rattle.dsql_laws_calls.proofs.Owners.{owner_is_of, lent_asks}
+use Rattle.dsql_laws_calls.proofs.Owners.{owner_is_of}
 use Rattle.dsql_laws_calls.proofs.Lent.{stays_lent}
 use Rattle.dsql_laws_calls.proofs.Looks.{heard_there}
 use Rattle.dsql_laws_calls.proofs.Stays.{not_looking, work_stays, asked_stays}
@@ -86,7 +83,7 @@ awaited_as v w x y n L M a b c h = rw (a, b, c) h
 
 -- Holds if it takes an answer to decide for call n.
 abbrev pub Needs : List Event → ℕ → Type 0
-Needs H n = work_needs (caps H) (work H n) ≡ true
+Needs H n = needs_answer (caps H) (aim_of (work H n)) ≡ true
 
 pub record Awaits (H : List Event) (n : ℕ) : Type 0 where
   pub conn : ℕ
@@ -96,14 +93,13 @@ pub record Awaits (H : List Event) (n : ℕ) : Type 0 where
   pub lent : place H conn ≡ Some (Lent tenure owner)
   pub awaited : awaited_by (work H n) (asked_by H n) n (heard_in H conn tenure) ≡ true
 
--- If the call that is lent a connection begins no transaction and makes no pin, the connection's owner is a call.
-pub plain_call : (H : List Event) (c t : ℕ) (own : Owner) → Lawful H → place H c ≡ Some (Lent t own) → begins (work H (number_of own)) ≡ false → makes_pin (work H (number_of own)) ≡ false → is_call own ≡ true
-plain_call H c t own l is plain off = let o = owner_is_of H c t own l is in ap is_call o.1 ∙ by (work H (number_of own)) plain off
+-- If the call that is lent a connection begins no transaction, the connection's owner is a call.
+pub plain_call : (H : List Event) (c t : ℕ) (own : Owner) → Lawful H → place H c ≡ Some (Lent t own) → begins (work H (number_of own)) ≡ false → is_call own ≡ true
+plain_call H c t own l is plain = let o = owner_is_of H c t own l is in ap is_call o.1 ∙ by (work H (number_of own)) plain
   where
-    by : (w : Work) → begins w ≡ false → makes_pin w ≡ false → is_call (owner_as w (number_of own)) ≡ true
-    by (works_of.Begin label level read_only) h k = absurd cc
-    by (works_of.Pin label) h k = absurd cc
-    by w h k = refl
+    by : (w : Work) → begins w ≡ false → is_call (owner_as w (number_of own)) ≡ true
+    by (works_of.Begin label level read_only) h = absurd cc
+    by w h = refl
 
 -- A call that awaits an answer sends something.
 sends_there : (H : List Event) (c t : ℕ) (own : Owner) → Lawful H → place H c ≡ Some (Lent t own) → Needs H (number_of own) → awaited_by (work H (number_of own)) (asked_by H (number_of own)) (number_of own) (heard_in H c t) ≡ true
@@ -117,12 +113,11 @@ sends_there H c t own l is needs h = by (begins (work H (number_of own))) refl
         ∙ begin_sends (caps H) (is_reset_due H c) (calls_of.Begin at.0 at.1) (line_among (number_of own) (heard_in H c t))
         (sym (begin_awaited (work H (number_of own)) (asked_by H (number_of own)) (number_of own) (heard_in H c t) begin) ∙ h)
     by false plain =
-        let n = needed (caps H) (work H (number_of own)) needs in
-        let call = plain_call H c t own l is plain n.1 in
+        let call = plain_call H c t own l is plain in
         let s = sound H l in
         let f = s.facts in
         ap (λ d. is_some d) (line_of_call H c t own wishes.Nothing l is call)
-        ∙ awaited_due (caps H) (is_reset_due H c) (asked_by H (number_of own)) wishes.Nothing (heard_in H c t) n.0 (f.made c t own is call)
+        ∙ awaited_due (caps H) (is_reset_due H c) (asked_by H (number_of own)) wishes.Nothing (heard_in H c t) needs (f.made c t own is call)
         (sym (plain_awaited (work H (number_of own)) (asked_by H (number_of own)) (number_of own) (heard_in H c t) plain) ∙ h)
 
 pub awaiting_sends : (H : List Event) (n : ℕ) → Lawful H → Needs H n → (a : Awaits H n) → is_some (line_there H a.conn a.tenure a.owner n wishes.Nothing) ≡ true
@@ -203,20 +198,20 @@ opened H c t own l is plain some = by (own_cursor (exchanges (heard_in H c t))) 
         let s = sound H l in
         let f = s.facts in
         let aim = handing (work H (number_of own)) (rows_hand_out H (number_of own) some) in
-        handed_awaits (caps H) (asked_by H (number_of own)) (heard_in H c t) r (f.made c t own is (plain_call H c t own l is plain (hands_no_pin (work H (number_of own)) (rows_hand_out H (number_of own) some)))) (ap (λ a. handed a (exchanges (heard_in H c t))) aim ∙ cursor)
+        handed_awaits (caps H) (asked_by H (number_of own)) (heard_in H c t) r (f.made c t own is (plain_call H c t own l is plain)) (ap (λ a. handed a (exchanges (heard_in H c t))) aim ∙ cursor)
 
 -- While a call awaits an answer, no other call sends on its connection.
-nobody_else : (H : List Event) (e : Entry) (t : ℕ) (own : Owner) → Lawful (Heard e ∷ H) → place H e.conn ≡ Some (Lent t own) → begins (work H (number_of own)) ≡ false → makes_pin (work H (number_of own)) ≡ false → number_of own ≢ e.call_no
+nobody_else : (H : List Event) (e : Entry) (t : ℕ) (own : Owner) → Lawful (Heard e ∷ H) → place H e.conn ≡ Some (Lent t own) → begins (work H (number_of own)) ≡ false → number_of own ≢ e.call_no
     → awaits (is_one (asked_by H (number_of own)).aim) (heard_in H e.conn t) (length (asked_by H (number_of own)).params) ≡ true → ⊥
-nobody_else H e t own l is plain off apart h = let u = under_way H e t own l is in by u.0 u.1
+nobody_else H e t own l is plain apart h = let u = under_way H e t own l is in by u.0 u.1
   where
     why : Why H e.conn e.tenure own e.call_no → ⊥
     why (inl its) = apart its.itself
     why (inr (inl rows)) = never (awaits (is_one (asked_by H (number_of own)).aim) (heard_in H e.conn t) (length (asked_by H (number_of own)).params)) h (opened H e.conn t own l.0 is plain rows.some)
-    why (inr (inr tx)) = never (begins (work H (number_of own))) (begun_begins H (number_of own) l.0 (lent_asks H e.conn t own l.0 is) tx.begun) plain
+    why (inr (inr tx)) = never (begins (work H (number_of own))) (begun_begins H (number_of own) l.0 tx.begun) plain
 
     by : (u : UnderWay H e) → u.owner ≡ own → ⊥
-    by u same = why (subst (λ o. Why H e.conn e.tenure o e.call_no) same (u.why (ap is_pin same ∙ call_no_pin own (plain_call H e.conn t own l.0 is plain off))))
+    by u same = why (subst (λ o. Why H e.conn e.tenure o e.call_no) same u.why)
 
 -- What other calls send doesn't join the line of a begin.
 begin_apart : (H : List Event) (e : Entry) (c t : ℕ) (own : Owner) → Lawful H → place H c ≡ Some (Lent t own) → begins (work H (number_of own)) ≡ true → (e.call_no == number_of own) ≡ false
@@ -257,10 +252,8 @@ other_awaits H e n l u own needs other apart a = by (same_or_not e.conn a.conn)
     plain_case : e.conn ≡ a.conn → begins (work H n) ≡ false → Awaits (Heard e ∷ H) n
     plain_case here plain =
         let there : place H e.conn ≡ Some (Lent a.tenure a.owner) = ap (place H) here ∙ a.lent in
-        let need = needed (caps H) (work H n) needs in
-        let off : makes_pin (work H (number_of a.owner)) ≡ false = ap (λ k. makes_pin (work H k)) a.number ∙ need.1 in
         let h : awaits (is_one (asked_by H n).aim) (heard_in H a.conn a.tenure) (length (asked_by H n).params) ≡ true = sym (plain_awaited (work H n) (asked_by H n) n (heard_in H a.conn a.tenure) plain) ∙ a.awaited in
-        absurd (nobody_else H e a.tenure a.owner l there (ap (λ k. begins (work H k)) a.number ∙ plain) off (λ same. apart (sym a.number ∙ same))
+        absurd (nobody_else H e a.tenure a.owner l there (ap (λ k. begins (work H k)) a.number ∙ plain) (λ same. apart (sym a.number ∙ same))
         (subst (λ k. awaits (is_one (asked_by H k).aim) (heard_in H e.conn a.tenure) (length (asked_by H k).params) ≡ true) (sym a.number)
         (subst (λ c. awaits (is_one (asked_by H n).aim) (heard_in H c a.tenure) (length (asked_by H n).params) ≡ true) (sym here) h)))
 

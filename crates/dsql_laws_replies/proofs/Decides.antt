@@ -24,7 +24,7 @@ use Rattle.dsql_laws_calls.specs.works.declared.work.Aim.TheVariants as aims
 use Rattle.dsql_laws_calls.specs.history.declared.work.Scope.TheVariants.{Db}
 use Rattle.dsql_laws_calls.specs.history.declared.work.Work.{Work}
 use Rattle.dsql_laws_calls.specs.history.declared.work.Task.TheVariants.{Execute, ReadOne, HandOut}
-use Rattle.dsql_laws_calls.specs.history.declared.work.Work.TheVariants.{Statement, Pin, Ping as Pings, Close}
+use Rattle.dsql_laws_calls.specs.history.declared.work.Work.TheVariants.{Statement, Ping as Pings, Close}
 use Rattle.dsql_laws_calls.specs.history.Readers.Works.{asks, aim_of}
 use Rattle.dsql_laws_calls.specs.works.Exchanges.{exchanges, step_of, with_exchange}
 use Rattle.dsql_laws_calls.specs.works.Line.{Asked, is_due_in_line, line_after}
@@ -101,7 +101,6 @@ fetch_settles again number can text params (Statement Db (HandOut label)) w s ma
     let over = x.over rows c.1 in
     absurd (fetch over.0)
 fetch_settles again number can text params (Statement Db Execute) w s made rows a own plain fetch x good = let c = cursor_at can (asking text params aims.Execute) s made rows x.next x.before in absurd (impossible c.0)
-fetch_settles again number can text params (Pin label) w s made rows a own plain fetch x good = let c = cursor_at can (asking text params aims.Execute) s made rows x.next x.before in absurd (impossible c.0)
 fetch_settles again number can text params Pings w s made rows a own plain fetch x good = let c = cursor_at can (asking text params aims.Ping) s made rows x.next x.before in absurd (impossible c.0)
 fetch_settles again number can text params it w s made rows a own plain fetch x good = absurd cc
 

@@ -42,7 +42,7 @@ use Rattle.dsql_laws_calls.proofs.Inside.{inside_uses, number_not, hands_same}
 use Rattle.dsql_laws_calls.proofs.HandedRows.{rows_begun}
 use Rattle.dsql_laws_calls.proofs.LineParts.{grows, grows_own}
 use Rattle.dsql_laws_calls.proofs.Coming.{sound}
-use Rattle.dsql_laws_calls.proofs.Scopes.{held_there}
+use Rattle.dsql_laws_calls.proofs.Why.{scoped}
 
 never : (b : Bool) → b ≡ true → b ≡ false → ⊥
 never b x y = cc
@@ -82,7 +82,7 @@ answer_holds H e c t own n l is hands some rest = by (some_heard H (work H e.cal
     kept (inr off) were = ap (λ J. holds (of_tenure t J) n) (heard_other H e c off) ∙ rest were
 
     in_it : scope (work H n) ≡ Held (number_of own)
-    in_it = held_there H c t own n l.0 is hands
+    in_it = scoped (work H n) (number_of own) hands
 
     here_so : n ≡ e.call_no → e.conn ≡ c
     here_so mine =

@@ -6,9 +6,7 @@ use Rattle.dsql_laws_calls.specs.driver.Kinds.{is_ending}
 use Rattle.dsql_laws_calls.specs.course.declared.course.Wish.TheVariants as wishes
 use Rattle.dsql_laws_calls.specs.journal.declared.entry.Entry.{Entry}
 use Rattle.dsql_laws_calls.specs.journal.declared.entry.Owner.{Owner}
-use Rattle.dsql_laws_calls.specs.journal.declared.entry.Owner.TheVariants as owners
-use Rattle.dsql_laws_calls.specs.course.Made.{or_else}
-use Rattle.dsql_laws_calls.specs.journal.Kinds.{is_pin, number_of}
+use Rattle.dsql_laws_calls.specs.journal.Kinds.{number_of}
 use Rattle.dsql_laws_calls.specs.journal.Readers.{of_tenure}
 use Rattle.dsql_laws_calls.specs.pool.declared.conn.Place.TheVariants.{Lent}
 use Rattle.dsql_laws_calls.specs.tx.declared.end.TxEnd.{TxEnd}
@@ -18,25 +16,24 @@ use Rattle.dsql_laws_calls.proofs.laws_work.Rows.{same_or_not}
 use Rattle.dsql_laws_calls.proofs.laws.Tests.{both, same_number, same_itself, other_number}
 use Rattle.dsql_laws_calls.specs.history.declared.event.Event.{Event}
 use Rattle.dsql_laws_calls.specs.history.declared.event.Event.TheVariants.{Entered, Heard, Replied}
-use Rattle.dsql_laws_calls.specs.history.declared.work.Scope.TheVariants.{Held, Db, Pinned, Within}
+use Rattle.dsql_laws_calls.specs.history.declared.work.Scope.TheVariants.{Held, Db}
 use Rattle.dsql_laws_calls.specs.history.declared.work.Work.{Work}
-use Rattle.dsql_laws_calls.specs.history.declared.work.Work.TheVariants.{Fetch, End, EndWithin, Unpin, Look, Close}
+use Rattle.dsql_laws_calls.specs.history.declared.work.Work.TheVariants.{Statement, Fetch, End, Look, Begin, Ping, Close}
 use Rattle.dsql_laws_calls.specs.history.Readers.Journals.{heard_in}
 use Rattle.dsql_laws_calls.specs.history.Readers.Pool.{place, home}
 use Rattle.dsql_laws_calls.specs.history.Readers.Transactions.{tx_end, tx_ender, is_begun, is_over, goes_on, ending_call, transactions, ends_as, tx_by, end_of}
-use Rattle.dsql_laws_calls.specs.history.Readers.Works.{works, work, borrower, work_of, tx_maker, scope, asks}
+use Rattle.dsql_laws_calls.specs.history.Readers.Works.{works, work, borrower, work_of, tx_maker}
 use Rattle.dsql_laws_calls.specs.history.Rules.Ending.{ending}
-use Rattle.dsql_laws_calls.specs.history.Rules.Line.{is_due, is_due_at, due_in, due_for, tidying, tidying_pin, tidying_for, parts, may_come, sends_in, sends_on, due_inside, sends_from}
+use Rattle.dsql_laws_calls.specs.history.Rules.Line.{is_due, is_due_at, due_in, due_for, tidying, parts, may_come, sends_in, due_inside, sends_from}
 use Rattle.dsql_laws_calls.specs.history.Rules.Sent.{line_of, close_due, wish, sent_for}
 use Rattle.dsql_laws_calls.specs.history.Legal.{Lawful}
-use Rattle.dsql_laws_calls.proofs.Lent.{stays_lent, remains_lent, unparted}
+use Rattle.dsql_laws_calls.proofs.Lent.{stays_lent}
 use Rattle.dsql_laws_calls.proofs.Looks.{heard_there, comes}
 use Rattle.dsql_laws_calls.proofs.Works as of_works
-use Rattle.dsql_laws_calls.proofs.Begun.{begun_begins, begun_starts, over_begun, stays_over}
-use Rattle.dsql_laws_calls.proofs.Beginnings.{begin_no_pin}
+use Rattle.dsql_laws_calls.proofs.Begun.{over_begun, stays_over}
 use Rattle.dsql_laws_calls.proofs.BeginningsAt.{heard_more, heard_other, is_answer, heard_same}
 use Rattle.dsql_laws_calls.proofs.Own.{due_now, due_of, DueNow, some_due}
-use Rattle.dsql_laws_calls.proofs.UnderWay.{at_number, no_ending, clash}
+use Rattle.dsql_laws_calls.proofs.UnderWay.{at_number, no_ending}
 use Rattle.dsql_laws_calls.proofs.Coming.{sound}
 use Rattle.dsql_laws_calls.proofs.Nowhere.{own_settled}
 use Rattle.dsql_laws_calls.specs.driver.Fits.{fits_of, is_memory}
@@ -45,13 +42,7 @@ use Rattle.dsql_laws_calls.specs.history.Readers.Decisions.{decision, Trying}
 use Rattle.dsql_laws_replies.proofs.EndKinds.{end_kind}
 use Rattle.dsql_laws_calls.specs.course.declared.course.Wish.{Wish}
 use Rattle.dsql_laws_calls.specs.history.declared.work.Scope.{Scope}
-use Rattle.dsql_laws_calls.proofs.Why.{ended_there, tx_used, ending_some}
-use Rattle.dsql_laws_calls.specs.Chores.{is_lent_for}
-use Rattle.dsql_laws_calls.proofs.DueLent.{due_lent_for}
-use Rattle.dsql_laws_calls.proofs.Owners.{lent_asks}
-use Rattle.dsql_laws_calls.proofs.Plain.{begins, starts}
-use Rattle.dsql_laws_calls.proofs.Scopes.{begins_on_pin, pin_of, pin_owner}
-use Rattle.dsql_laws_replies.proofs.Pins.{pings, begin_starts, closing_alone, ping_pings, starts_alone}
+use Rattle.dsql_laws_calls.proofs.Why.{why_used, ended_there, tx_used, ending_some}
 use Rattle.std.specs.Option.{option_map}
 use Rattle.dsql_laws_calls.specs.numbered.Numbered.{thing_of, changed}
 use Rattle.dsql_laws_calls.proofs.numbered.Numbers.{changes_one_number}
@@ -92,74 +83,54 @@ rows_ending H k wishes.Close q h e = never (is_ending q) e (no_ending H k wishes
 inside_ending : (H : List Event) (m : ℕ) (s : Scope) (q : DriverCall) → is_due (due_inside H m s) q ≡ true → is_ending q ≡ true → ⊥
 inside_ending H m Db q h e = never (is_ending q) e (no_ending H m wishes.Nothing q h)
 inside_ending H m (Held k) q h e = cond_ending H m wishes.Nothing q (sends_in H m k) h e
-inside_ending H m (Pinned p) q h e = cond_ending H m wishes.Nothing q (sends_on H m p) h e
-inside_ending H m (Within p k) q h e = cond_ending H m wishes.Nothing q (sends_in H m k) h e
 
--- Beside what a call made, the layer tidies up only on pins.
-tidied_off : (H : List Event) (o : Owner) (d : Option DriverCall) (q : DriverCall) → is_pin o ≡ false → is_due (or_else d (option_map (λ it. it.call) (tidying_pin H o))) q ≡ true → is_due d q ≡ true
-tidied_off H o (Some p) q off h = h
-tidied_off H (owners.Pin p) None q off h = absurd cc
-tidied_off H o None q off h = h
-
--- The call that ended a transaction on this connection, which no pin has, sent what ends it.
 record Ender (H : List Event) (e : Entry) : Type 0 where
   owner : Owner
   lent : place H e.conn ≡ Some (Lent e.tenure owner)
-  ender : is_pin owner ≡ false → tx_ender H (number_of owner) ≡ e.call_no
+  ender : tx_ender H (number_of owner) ≡ e.call_no
 
 ender_now : (H : List Event) (e : Entry) → Lawful H → is_due_at H (place H e.conn) e ≡ true → is_ending e.call ≡ true → Ender H e
-ender_now H e l now ends = record { owner = d.owner; lent = d.lent; ender = λ off. by off (e.call_no == 0) refl d.due }
+ender_now H e l now ends = by (e.call_no == 0) refl d.due
   where
     d : DueNow H e
     d = due_now H e now
 
-    layer : (b x y : Bool) → (tx_ender H (number_of d.owner) == 0) ≡ x → is_due (cond b (cond x (ending H (number_of d.owner)) None) (cond y (close_due H (number_of d.owner)) None)) e.call ≡ true → e.call_no ≡ 0
-        → tx_ender H (number_of d.owner) ≡ e.call_no
-    layer true true y is h none = same_number (tx_ender H (number_of d.owner)) 0 is ∙ sym none
+    layer : (b x y : Bool) → (tx_ender H (number_of d.owner) == 0) ≡ x → is_due (cond b (cond x (ending H (number_of d.owner)) None) (cond y (close_due H (number_of d.owner)) None)) e.call ≡ true → e.call_no ≡ 0 → Ender H e
+    layer true true y is h none = record { owner = d.owner; lent = d.lent; ender = same_number (tx_ender H (number_of d.owner)) 0 is ∙ sym none }
     layer true false y is h none = absurd cc
     layer false x true is h none = absurd (cond_ending H (number_of d.owner) wishes.Close e.call (are_over H (number_of d.owner)) h ends)
     layer false x false is h none = absurd cc
 
-    own_end : (k : ℕ) → work H e.call_no ≡ End k → (e.call_no == 0) ≡ false → (b : Bool) → (tx_ender H k == e.call_no) ≡ b → is_due (cond b (ending H k) None) e.call ≡ true → tx_ender H (number_of d.owner) ≡ e.call_no
+    some_due_so : (o : Option DriverCall) → is_due o e.call ≡ true → is_some o ≡ true
+    some_due_so o h = some_due o e.call h
+
+    own_end : (k : ℕ) → work H e.call_no ≡ End k → (e.call_no == 0) ≡ false → (b : Bool) → (tx_ender H k == e.call_no) ≡ b → is_due (cond b (ending H k) None) e.call ≡ true → Ender H e
     own_end k it some true is h =
         let site_is : home H k ≡ e.conn = ap (home H) (sym (ends_on H e.call_no k it)) ∙ d.site some in
         let number = at_number H k e.conn e.tenure d.owner (some_due (ending H k) e.call h) site_is d.lent in
-        ap (tx_ender H) number ∙ same_number (tx_ender H k) e.call_no is
+        record { owner = d.owner; lent = d.lent; ender = ap (tx_ender H) number ∙ same_number (tx_ender H k) e.call_no is }
       where
         ends_on : (K : List Event) (m j : ℕ) → work K m ≡ End j → borrower K m ≡ j
         ends_on K m j x = rw x refl
     own_end k it some false is h = absurd cc
 
-    -- What is sent on a pin is sent in a tenure of the pin.
-    on_pin : {A : Type 0} → (e.call_no == 0) ≡ false → is_some (due_for H e.call_no) ≡ true → pin_of (work H e.call_no) ≡ borrower H e.call_no → is_pin d.owner ≡ false → A
-    on_pin some due uses off =
-        let lent = due_lent_for H e.call_no (λ none. never (e.call_no == 0) (ap (λ j. j == 0) none) some) due in
-        let at : is_lent_for (borrower H e.call_no) (Some (Lent e.tenure d.owner)) ≡ true = sym (ap (λ c. is_lent_for (borrower H e.call_no) (place H c)) (d.site some) ∙ ap (is_lent_for (borrower H e.call_no)) d.lent) ∙ lent in
-        let number = same_number (number_of d.owner) (borrower H e.call_no) at in
-        absurd (never (is_pin d.owner) (pin_owner H e.conn e.tenure d.owner e.call_no l d.lent (uses ∙ sym number)) off)
+    works_by : (w : Work) → work H e.call_no ≡ w → (e.call_no == 0) ≡ false → is_due (due_in H e.call_no w) e.call ≡ true → Ender H e
+    works_by (Fetch k) it some h = absurd (rows_ending H k (wish H e.call_no k) e.call h ends)
+    works_by (Close k) it some h = absurd (rows_ending H k (wish H e.call_no k) e.call h ends)
+    works_by (End k) it some h = own_end k it some (tx_ender H k == e.call_no) refl h
+    works_by Look it some h = absurd cc
+    works_by (Statement s task) it some h = absurd (inside_ending H e.call_no s e.call h ends)
+    works_by (Begin label level read_only) it some h = absurd (inside_ending H e.call_no Db e.call h ends)
+    works_by Ping it some h = absurd (inside_ending H e.call_no Db e.call h ends)
 
-    works_by : is_pin d.owner ≡ false → (w : Work) → work H e.call_no ≡ w → (e.call_no == 0) ≡ false → is_some (due_for H e.call_no) ≡ true → is_due (due_in H e.call_no w) e.call ≡ true → tx_ender H (number_of d.owner) ≡ e.call_no
-    works_by off (Fetch k) it some due h = absurd (rows_ending H k (wish H e.call_no k) e.call h ends)
-    works_by off (Close k) it some due h = absurd (rows_ending H k (wish H e.call_no k) e.call h ends)
-    works_by off (End k) it some due h = own_end k it some (tx_ender H k == e.call_no) refl h
-    works_by off (EndWithin p k) it some due h = on_pin some due (rw it refl) off
-    works_by off (Unpin p) it some due h = on_pin some due (rw it refl) off
-    works_by off Look it some due h = absurd cc
-    works_by off w it some due h = absurd (inside_ending H e.call_no (scope w) e.call h ends)
-
-    by : is_pin d.owner ≡ false → (b : Bool) → (e.call_no == 0) ≡ b → is_due (cond b (tidying_for H d.owner) (due_for H e.call_no)) e.call ≡ true → tx_ender H (number_of d.owner) ≡ e.call_no
-    by off true none h =
-        layer (is_begun H (number_of d.owner)) (tx_ender H (number_of d.owner) == 0) (ender H (number_of d.owner) == 0) refl (tidied_off H d.owner (tidying H (number_of d.owner)) e.call off h) (same_number e.call_no 0 none)
-    by off false some h = let o = due_of H e.call_no e.call h in works_by off (work H e.call_no) refl some (some_due (due_for H e.call_no) e.call h) o.due
+    by : (b : Bool) → (e.call_no == 0) ≡ b → is_due (cond b (tidying H (number_of d.owner)) (due_for H e.call_no)) e.call ≡ true → Ender H e
+    by true none h = layer (is_begun H (number_of d.owner)) (tx_ender H (number_of d.owner) == 0) (ender H (number_of d.owner) == 0) refl h (same_number e.call_no 0 none)
+    by false some h = let o = due_of H e.call_no e.call h in works_by (work H e.call_no) refl some o.due
 
 ender_of : (H : List Event) (e : Entry) → Lawful H → may_come H e ≡ true → is_ending e.call ≡ true → Ender H e
 ender_of [] e l h ends = absurd cc
 ender_of (last ∷ H) e l h ends = by (λ may. ender_of H e l.0 may ends) (or_cases (is_due_at (last ∷ H) (place (last ∷ H) e.conn) e) (not (parts last e) && may_come H e) h)
   where
-    unparted_so : (b : Bool) → not b ≡ true → b ≡ false
-    unparted_so true x = absurd cc
-    unparted_so false x = refl
-
     by : (may_come H e ≡ true → Ender H e) → (is_due_at (last ∷ H) (place (last ∷ H) e.conn) e ≡ true) ⊎ ((not (parts last e) && may_come H e) ≡ true) → Ender (last ∷ H) e
     by rest (inl now) = ender_now (last ∷ H) e l now ends
     by rest (inr could) =
@@ -167,12 +138,9 @@ ender_of (last ∷ H) e l h ends = by (λ may. ender_of H e l.0 may ends) (or_ca
         let r = rest b.1 in
         let s = sound H l.0 in
         let u = s.coming e b.1 in
+        let lent = stays_lent H last e.conn e.tenure u.owner l.0 l.1 u.lent (why_used H e.conn e.tenure u.owner e.call_no l.0 u.lent u.why) in
         let same = same_lent e.tenure e.tenure u.owner r.owner (sym u.lent ∙ r.lent) in
-        record {
-          owner = r.owner;
-          lent = remains_lent H last e.conn e.tenure r.owner l.0 l.1 r.lent (inr (inr (unparted last e (unparted_so (parts last e) b.0))));
-          ender = λ off. still_ender H last (number_of r.owner) (ap (λ o. is_over H (number_of o)) (sym same.1) ∙ u.ending (ap is_pin same.1 ∙ off) ends) ∙ r.ender off;
-        }
+        record { owner = u.owner; lent = lent; ender = still_ender H last (number_of u.owner) (u.ending ends) ∙ (ap (λ o. tx_ender H (number_of o)) same.1 ∙ r.ender) }
 
 -- Holds if call n ended transaction k, and no end of the transaction was heard. A commit or a rollback has
 -- settled its reply, or this holds.
@@ -212,19 +180,16 @@ over_now : (by : TxEnd) (o : Option Trans) → is_some o ≡ true → is_some (e
 over_now by None h = absurd cc
 over_now by (Some x) h = refl
 
-ends_new : (H : List Event) (e : Event) (tx : List ℕ) (by_end : TxEnd) (m : ℕ) → Lawful (e ∷ H) → begins_on_pin (work H (tx_maker (works H) tx)) ≡ false → (transactions (e ∷ H) ≡ ends_as H tx by_end (transactions H)) → ending_call e ≡ m → ((c : ℕ) → place (e ∷ H) c ≡ place H c) → is_answer e ≡ false
+ends_new : (H : List Event) (e : Event) (tx : List ℕ) (by_end : TxEnd) (m : ℕ) → Lawful (e ∷ H) → (transactions (e ∷ H) ≡ ends_as H tx by_end (transactions H)) → ending_call e ≡ m → ((c : ℕ) → place (e ∷ H) c ≡ place H c) → is_answer e ≡ false
     → (is_some (tx_refused H tx) ≡ true) ⊎ Ending (e ∷ H) m (tx_maker (works H) tx)
-ends_new H e tx by_end m l alone txs call same none = by (is_begun H k) (is_unfinished H k) (tx_end H k) refl refl refl
+ends_new H e tx by_end m l txs call same none = by (is_begun H k) (is_unfinished H k) (tx_end H k) refl refl refl
   where
     k : ℕ
     k = tx_maker (works H) tx
 
     fresh : is_begun H k ≡ true → is_unfinished H k ≡ false → tx_end H k ≡ None → Ending (e ∷ H) m k
-    fresh begun replied going = at (tx_borrows H k l.0 own goes)
+    fresh begun replied going = at (tx_borrows H k l.0 goes)
       where
-        own : asks (work H k) ≡ true
-        own = starts_alone (work H k) (begun_starts H k l.0 begun) alone
-
         was : is_over H k ≡ false
         was = ap (λ o. is_some o) going
 
@@ -250,7 +215,6 @@ ends_new H e tx by_end m l alone txs call same none = by (is_begun H k) (is_unfi
         at b =
             let s = sound H l.0 in
             let f = s.facts in
-            let off = begin_no_pin H b.conn b.tenure b.owner l.0 b.lent (ap (λ j. begins (work H j)) b.number ∙ begun_begins H k l.0 own begun) in
             record {
               conn = b.conn;
               tenure = b.tenure;
@@ -259,7 +223,7 @@ ends_new H e tx by_end m l alone txs call same none = by (is_begun H k) (is_unfi
               lent = same b.conn ∙ b.lent;
               over = over;
               ender = ap (λ x. cond x (cond (goes_on (e ∷ H) k) 0 (ending_call e)) (tx_ender H k)) goes ∙ (ap (λ x. cond x 0 (ending_call e)) stopped ∙ call);
-              none = ap (λ J. ended_there (of_tenure b.tenure J)) (heard_same H e b.conn none) ∙ f.ends b.conn b.tenure b.owner b.lent off (ap (is_over H) b.number ∙ was);
+              none = ap (λ J. ended_there (of_tenure b.tenure J)) (heard_same H e b.conn none) ∙ f.ends b.conn b.tenure b.owner b.lent (ap (is_over H) b.number ∙ was);
             }
 
     by : (a b : Bool) (o : Option TxEnd) → is_begun H k ≡ a → is_unfinished H k ≡ b → tx_end H k ≡ o → (is_some (cond (is_begun H k && not (is_unfinished H k)) (done_with (tx_end H k)) (Some (Absent tx))) ≡ true) ⊎ Ending (e ∷ H) m k
@@ -269,16 +233,8 @@ ends_new H e tx by_end m l alone txs call same none = by (is_begun H k) (is_unfi
     by true false None x y z = inr (fresh x y z)
 
 ends_entered : (H : List Event) (client m : ℕ) (op : Op) (k : ℕ) → Lawful (Entered client m op ∷ H) → work_of (works H) op ≡ End k → (is_some (told_at_entry H op) ≡ true) ⊎ Ending (Entered client m op ∷ H) m k
-ends_entered H client m (ops.Commit tx) k l it =
-    let j = tx_maker (works H) tx in
-    let c = closing_alone (work H j) j k it in
-    subst (λ i. (is_some (tx_refused H tx) ≡ true) ⊎ Ending (Entered client m (ops.Commit tx) ∷ H) m i) c.1 (ends_new H (Entered client m (ops.Commit tx)) tx tx_ends.Commit m l c.0 refl refl (λ c. refl) refl)
-ends_entered H client m (ops.Rollback tx) k l it =
-    let j = tx_maker (works H) tx in
-    let c = closing_alone (work H j) j k it in
-    subst (λ i. (is_some (tx_refused H tx) ≡ true) ⊎ Ending (Entered client m (ops.Rollback tx) ∷ H) m i) c.1 (ends_new H (Entered client m (ops.Rollback tx)) tx tx_ends.Rollback m l c.0 refl refl (λ c. refl) refl)
-ends_entered H client m (ops.Begin label target level read_only) k l it = clash (sym (begin_starts (works H) target label level read_only) ∙ ap starts it)
-ends_entered H client m (ops.Ping target) k l it = clash (sym (ping_pings (works H) target) ∙ ap pings it)
+ends_entered H client m (ops.Commit tx) k l it = let same : tx_maker (works H) tx ≡ k = cc in subst (λ j. (is_some (tx_refused H tx) ≡ true) ⊎ Ending (Entered client m (ops.Commit tx) ∷ H) m j) same (ends_new H (Entered client m (ops.Commit tx)) tx tx_ends.Commit m l refl refl (λ c. refl) refl)
+ends_entered H client m (ops.Rollback tx) k l it = let same : tx_maker (works H) tx ≡ k = cc in subst (λ j. (is_some (tx_refused H tx) ≡ true) ⊎ Ending (Entered client m (ops.Rollback tx) ∷ H) m j) same (ends_new H (Entered client m (ops.Rollback tx)) tx tx_ends.Rollback m l refl refl (λ c. refl) refl)
 ends_entered H client m op k l it = absurd cc
 
 ends_heard : (H : List Event) (e : Entry) (n k : ℕ) → Lawful (Heard e ∷ H) → n ≢ 0 → work H n ≡ End k → Ends H n k → Ends (Heard e ∷ H) n k
@@ -296,9 +252,7 @@ ends_heard H e n k l some it i = by (e.call_no == n) (is_ending e.call) refl ref
         let there : place H e.conn ≡ Some (Lent a.tenure a.owner) = ap (place H) here ∙ a.lent in
         let r = ender_of H e l.0 (may a.tenure a.owner there) ends_it in
         let same = same_lent e.tenure a.tenure r.owner a.owner (sym r.lent ∙ there) in
-        let begun = over_begun H (number_of a.owner) (ap (is_over H) a.number ∙ a.over) in
-        let off = begin_no_pin H a.conn a.tenure a.owner l.0 a.lent (begun_begins H (number_of a.owner) l.0 (lent_asks H a.conn a.tenure a.owner l.0 a.lent) begun) in
-        let number : e.call_no ≡ n = sym (r.ender (ap is_pin same.1 ∙ off)) ∙ ap (tx_ender H) (ap number_of same.1 ∙ a.number) ∙ a.ender in
+        let number : e.call_no ≡ n = sym r.ender ∙ ap (tx_ender H) (ap number_of same.1 ∙ a.number) ∙ a.ender in
         absurd (never (e.call_no == n) (ap (λ j. j == n) number ∙ same_itself n) other)
     foreign a other ends_it (inr off) = inr (ending_on H (Heard e) n k l a (ap (λ J. ended_there (of_tenure a.tenure J)) (heard_other H e a.conn off) ∙ a.none))
 

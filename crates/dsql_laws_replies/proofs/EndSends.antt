@@ -36,7 +36,7 @@ use Rattle.dsql_laws_calls.specs.history.Readers.Pool.{place, home}
 use Rattle.dsql_laws_calls.specs.history.Readers.Transactions.{tx_end, tx_ender, is_begun}
 use Rattle.dsql_laws_calls.specs.history.Readers.Works.{works, work, scope, hands_out_in, aim_of}
 use Rattle.dsql_laws_calls.specs.history.Rules.Ending.{first_closing, end_after, ended_by_call, ending_at, ending_with, ending}
-use Rattle.dsql_laws_calls.specs.history.Rules.Line.{is_due, is_due_at, due_in, due_for, tidying_for, parts, may_come}
+use Rattle.dsql_laws_calls.specs.history.Rules.Line.{is_due, is_due_at, due_in, due_for, tidying, parts, may_come}
 use Rattle.dsql_laws_calls.specs.history.Rules.Sent.{asked_by, untested, line_of, close_due}
 use Rattle.dsql_laws_calls.specs.history.Legal.{Lawful}
 use Rattle.dsql_laws_calls.proofs.Looks.{sent_no_look}
@@ -49,8 +49,7 @@ use Rattle.dsql_laws_calls.proofs.DueWay as of_due
 use Rattle.dsql_laws_calls.proofs.LiveRows.{over_some}
 use Rattle.dsql_laws_calls.proofs.Own.{due_now, due_of}
 use Rattle.dsql_laws_calls.proofs.UnderWay.{line_made}
-use Rattle.dsql_laws_calls.proofs.Scopes.{held_there}
-use Rattle.dsql_laws_calls.proofs.Owners.{lent_asks}
+use Rattle.dsql_laws_calls.proofs.Why.{scoped}
 use Rattle.dsql_laws_replies.proofs.InnerHeard.{closing_tidy}
 use Rattle.dsql_laws_replies.proofs.Decides.{closing_decides}
 use Rattle.dsql_laws_replies.proofs.InnerOver.{is_tidy}
@@ -83,12 +82,12 @@ closing_kind H c t own n p l is begun hands h = by (are_over H n) refl h
     made = line_made H c t n
 
     in_it : scope (work H n) ≡ Held (number_of own)
-    in_it = held_there H c t own n l is hands
+    in_it = scoped (work H n) (number_of own) hands
 
     line : line_of H n wishes.Close ≡ body_with (untested (caps H)) (went_bad (journal H c)) (asked_by H n) wishes.Close (line_made H c t n) (handed (asked_by H n).aim (line_made H c t n))
     line =
         line_here H c t own n wishes.Close l is (inside_uses H n (number_of own) in_it)
-        ∙ of_due.inner_is H c t own n wishes.Close (number_of own) (begin_owner H c t own l is (begun_begins H (number_of own) l (lent_asks H c t own l is) begun)) in_it
+        ∙ of_due.inner_is H c t own n wishes.Close (number_of own) (begin_owner H c t own l is (begun_begins H (number_of own) l begun)) in_it
 
     either : (b : Bool) (r : ℕ) (d : Due) → is_tidy aims.HandOut d ≡ true → sent_over (untested (caps H)) (asked_by H n) (rows_next_if b wishes.Close d r) ≡ Some p → end_kind p ≡ true
     either true r d t x = sent_kind (caps H) (asked_by H n) d p t x
@@ -165,7 +164,7 @@ end_sends (last ∷ H) e k l h some it = by (λ may was. end_sends H e k l.0 may
     by : (may_come H e ≡ true → work H e.call_no ≡ End k → end_kind e.call ≡ true) → (is_due_at (last ∷ H) (place (last ∷ H) e.conn) e ≡ true) ⊎ ((not (parts last e) && may_come H e) ≡ true) → end_kind e.call ≡ true
     by rest (inl now) =
         let d = due_now (last ∷ H) e now in
-        let its : is_due (due_for (last ∷ H) e.call_no) e.call ≡ true = ap (λ b. is_due (cond b (tidying_for (last ∷ H) d.owner) (due_for (last ∷ H) e.call_no)) e.call) (sym some) ∙ d.due in
+        let its : is_due (due_for (last ∷ H) e.call_no) e.call ≡ true = ap (λ b. is_due (cond b (tidying (last ∷ H) (number_of d.owner)) (due_for (last ∷ H) e.call_no)) e.call) (sym some) ∙ d.due in
         let o = due_of (last ∷ H) e.call_no e.call its in
         due_end (tx_ender (last ∷ H) k == e.call_no) (ap (λ w. is_due (due_in (last ∷ H) e.call_no w) e.call) (sym it) ∙ o.due)
     by rest (inr could) =

@@ -16,17 +16,14 @@ use Rattle.dsql_laws_calls.specs.history.Readers.Calls.{call_record, calls, deci
 use Rattle.dsql_laws_calls.specs.history.Readers.Decisions.{rows_reply}
 use Rattle.dsql_laws_calls.specs.history.Readers.Pool.{place}
 use Rattle.dsql_laws_calls.specs.history.Readers.Unfinished.{is_unfinished}
-use Rattle.dsql_laws_calls.specs.history.Readers.Works.{rows_maker, tx_maker, work, work_of, works}
+use Rattle.dsql_laws_calls.specs.history.Readers.Works.{rows_maker, work, work_of, works}
 use Rattle.dsql_laws_calls.specs.history.Legal.{Lawful}
 use Rattle.dsql_laws_calls.proofs.laws.Numbered.{unfinished_from_one}
 use Rattle.dsql_laws_calls.proofs.EndedRows.{rows_kept}
 use Rattle.dsql_laws_calls.proofs.Looks.{comes, heard_there}
 use Rattle.dsql_laws_calls.proofs.Nowhere.{others_settled, own_settled}
-use Rattle.dsql_laws_calls.proofs.Plain.{starts}
 use Rattle.dsql_laws_calls.proofs.RowsKept.{rows_fetched}
-use Rattle.dsql_laws_calls.proofs.UnderWay.{clash}
 use Rattle.dsql_laws_calls.proofs.Works.{enters_next, new_record, new_work, old_record, old_unfinished, old_work, other_heard, other_replied, still_unfinished}
-use Rattle.dsql_laws_replies.proofs.Pins.{ends_tx, pings, begin_starts, closing_ends, ping_pings}
 
 -- Holds if call n, a fetch of the rows of call k, has settled its reply, or the rows were made.
 abbrev pub Finds : List Event → ℕ → ℕ → Type 0
@@ -54,10 +51,6 @@ entering_finds : (H : List Event) (op : Op) (k : ℕ) → work_of (works H) op �
 entering_finds H (ops.Next label) k it =
     let same : rows_maker (works H) label ≡ k = cc in
     subst (λ j. (is_some (told_at_entry H (ops.Next label)) ≡ true) ⊎ (is_some (rows_by H j) ≡ true)) same (next_told H label)
-entering_finds H (ops.Begin label target level read_only) k it = clash (sym (begin_starts (works H) target label level read_only) ∙ ap starts it)
-entering_finds H (ops.Commit tx) k it = clash (sym (closing_ends (work H (tx_maker (works H) tx)) (tx_maker (works H) tx)) ∙ ap ends_tx it)
-entering_finds H (ops.Rollback tx) k it = clash (sym (closing_ends (work H (tx_maker (works H) tx)) (tx_maker (works H) tx)) ∙ ap ends_tx it)
-entering_finds H (ops.Ping target) k it = clash (sym (ping_pings (works H) target) ∙ ap pings it)
 entering_finds H op k it = absurd cc
 
 finds_entered : (H : List Event) (client m : ℕ) (op : Op) (k : ℕ) → m ≡ length (calls H) → work (Entered client m op ∷ H) m ≡ Fetch k → Finds (Entered client m op ∷ H) m k

@@ -27,7 +27,6 @@ use Rattle.dsql_laws_calls.specs.history.Rules.Sent.{asked_by, untested}
 use Rattle.dsql_laws_calls.specs.history.Legal.{Allowed, Lawful}
 use Rattle.dsql_laws_calls.proofs.Lent.{stays_lent, lent_before}
 use Rattle.dsql_laws_calls.proofs.Stays.{asked_stays}
-use Rattle.dsql_laws_calls.proofs.Owners.{lent_asks}
 use Rattle.dsql_laws_calls.proofs.Begun.{begun_begins, stays_begun}
 use Rattle.dsql_laws_calls.proofs.Beginnings.{begin_owner, lent_once_begun}
 use Rattle.dsql_laws_calls.proofs.BeginningsAt.{is_answer, heard_same, beginnings}
@@ -143,7 +142,7 @@ unhanded can _ count made h = refl
 line_next : (H : List Event) (c t : ℕ) (own : Owner) (n k : ℕ) → Lawful H → place H c ≡ Some (Lent t own) → number_of own ≡ k → is_begun H k ≡ true → scope (work H n) ≡ Held k → handed (asked_by H n).aim (line_made H c t n) ≡ None
     → line_there H c t own n wishes.Nothing ≡ sent_as (untested (caps H)) (asked_by H n) (next_inside (caps H) (went_bad (journal H c)) (asked_by H n) (line_made H c t n))
 line_next H c t own n k l is number begun s none =
-    of_due.inner_is H c t own n wishes.Nothing k (begin_owner H c t own l is (begun_begins H (number_of own) l (lent_asks H c t own l is) (ap (is_begun H) number ∙ begun))) s
+    of_due.inner_is H c t own n wishes.Nothing k (begin_owner H c t own l is (begun_begins H (number_of own) l (ap (is_begun H) number ∙ begun))) s
     ∙ of_quiet.inner_is (caps H) (went_bad (journal H c)) (asked_by H n) wishes.Nothing (line_among n (heard_in H c t)) none
 
 pub awaiting_line : (H : List Event) (c t : ℕ) (own : Owner) (n k : ℕ) → Lawful H → place H c ≡ Some (Lent t own) → number_of own ≡ k → is_begun H k ≡ true → scope (work H n) ≡ Held k → AwaitsAt (caps H) (asked_by H n) (line_made H c t n)

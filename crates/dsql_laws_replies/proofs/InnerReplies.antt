@@ -35,7 +35,7 @@ use Rattle.dsql_laws_calls.specs.history.Readers.Works.{work, scope}
 use Rattle.dsql_laws_calls.specs.history.Rules.Line.{is_due}
 use Rattle.dsql_laws_calls.specs.history.Rules.Sent.{asked_by, inner_after, sender}
 use Rattle.dsql_laws_calls.specs.history.Legal.{Lawful}
-use Rattle.dsql_laws_calls.proofs.Owners.{at_home, lent_asks}
+use Rattle.dsql_laws_calls.proofs.Owners.{at_home}
 use Rattle.dsql_laws_calls.proofs.Looks.{heard_there, comes}
 use Rattle.dsql_laws_calls.proofs.Stays.{asked_stays}
 use Rattle.dsql_laws_calls.proofs.Works.{other_heard}
@@ -179,7 +179,7 @@ inner_own H e n k l mine some s i = by (own_answer H e n k l mine s)
         fits = fitting H e l.1
 
         not_call : is_call w.owner ≡ false
-        not_call = begin_owner H e.conn e.tenure w.owner l.0 w.lent (begun_begins H (number_of w.owner) l.0 (lent_asks H e.conn e.tenure w.owner l.0 w.lent) (ap (is_begun H) w.number ∙ w.begun))
+        not_call = begin_owner H e.conn e.tenure w.owner l.0 w.lent (begun_begins H (number_of w.owner) l.0 (ap (is_begun H) w.number ∙ w.begun))
 
         due : is_due (inner_after (caps H) (went_bad (journal H e.conn)) (asked_by H n) wishes.Nothing (line_among n (heard_in H e.conn e.tenure))) e.call ≡ true
         due = let y = w.way in ap (λ d. is_due d e.call) (sym (of_due.inner_is H e.conn e.tenure w.owner n wishes.Nothing k not_call s)) ∙ y.due

@@ -14,16 +14,16 @@ use Rattle.dsql_laws_calls.specs.history.declared.event.Op.TheVariants as ops
 use Rattle.dsql_laws_calls.specs.history.declared.event.Target.TheVariants as targets
 use Rattle.dsql_laws_calls.specs.history.declared.reply.Reply.{Reply}
 use Rattle.dsql_laws_calls.specs.history.declared.reply.Reply.TheVariants.{Absent}
-use Rattle.dsql_laws_calls.specs.history.declared.work.Scope.TheVariants.{Held, Pinned}
+use Rattle.dsql_laws_calls.specs.history.declared.work.Scope.TheVariants.{Held}
 use Rattle.dsql_laws_calls.specs.history.declared.work.Work.{Work}
 use Rattle.dsql_laws_calls.specs.history.declared.work.Work.TheVariants.{Statement}
-use Rattle.dsql_laws_calls.specs.history.Readers.Calls.{calls, decided, is_there, done_with, tx_refused, pin_refused, target_refused, told_at_entry, told_by_others, told_at_lending, told_of_work, has_begun_to_send, reply_due, site}
+use Rattle.dsql_laws_calls.specs.history.Readers.Calls.{calls, decided, is_there, done_with, tx_refused, told_at_entry, told_by_others, told_at_lending, told_of_work, has_begun_to_send, reply_due, site}
 use Rattle.dsql_laws_calls.specs.history.Readers.Journals.{journal, heard_in}
 use Rattle.dsql_laws_calls.specs.history.Readers.Lines.{has_sent, line_among}
 use Rattle.dsql_laws_calls.specs.history.Readers.Pool.{home}
 use Rattle.dsql_laws_calls.specs.history.Readers.Transactions.{tx_end, is_begun, is_over, goes_on}
 use Rattle.dsql_laws_calls.specs.history.Readers.Unfinished.{is_unfinished}
-use Rattle.dsql_laws_calls.specs.history.Readers.Works.{works, work, work_of, scope, tx_maker, pin_maker, tx_scope, label_scope}
+use Rattle.dsql_laws_calls.specs.history.Readers.Works.{works, work, work_of, scope, tx_maker}
 use Rattle.dsql_laws_calls.specs.history.Rules.Line.{sends_in, due_in, due_for}
 use Rattle.dsql_laws_calls.specs.history.Rules.Sent.{line_of}
 use Rattle.dsql_laws_calls.specs.history.Legal.{Lawful}
@@ -36,10 +36,8 @@ use Rattle.dsql_laws_calls.proofs.LineParts.{unsent_line, unsent_in}
 use Rattle.dsql_laws_calls.proofs.Lines.{line_here}
 use Rattle.dsql_laws_calls.proofs.Nowhere.{others_settled, own_settled}
 use Rattle.dsql_laws_calls.proofs.RowsKept.{Borrows, tx_borrows}
-use Rattle.dsql_laws_calls.proofs.Scopes.{held_asks}
 use Rattle.dsql_laws_calls.proofs.TxEnders.{sent_entered}
 use Rattle.dsql_laws_calls.proofs.UnderWay.{newest_sent}
-use Rattle.dsql_laws_replies.proofs.Pins.{begin_unheld, closing_unheld, ping_unheld, inside_number}
 use Rattle.dsql_laws_replies.proofs.Inner.{Unsent, InAwaits, Inner, inner_quiet, awaiting_line}
 use Rattle.dsql_laws_replies.proofs.InnerReplies.{inner_other, inner_own}
 
@@ -62,27 +60,18 @@ first_told (Some r) p h = refl
 entering : (H : List Event) (op : Op) (k : ℕ) → scope (work_of (works H) op) ≡ Held k → (is_some (told_at_entry H op) ≡ true) ⊎ (is_begun H k ≡ true)
 entering H op k s = by op s
   where
-    told : (tx : List ℕ) (o : Option Reply) → label_scope (works H) tx ≡ Held k → (is_some (or_else (target_refused H (targets.Label tx)) o) ≡ true) ⊎ (is_begun H k ≡ true)
-    told tx o same = at (pin_maker (works H) tx == 0) same
-      where
-        at : (b : Bool) → cond b (tx_scope (works H) (tx_maker (works H) tx)) (Pinned (pin_maker (works H) tx)) ≡ Held k
-            → (is_some (or_else (cond b (tx_refused H tx) (pin_refused H tx)) o) ≡ true) ⊎ (is_begun H k ≡ true)
-        at true x =
-            let number = inside_number (work H (tx_maker (works H) tx)) (tx_maker (works H) tx) k x in
-            elim (refused_or H tx) [
-              | inl refused ↦ inl (first_told (tx_refused H tx) o refused)
-              | inr begun ↦ inr (subst (λ j. is_begun H j ≡ true) number begun)
-            ]
-        at false x = absurd cc
+    told : (tx : List ℕ) (o : Option Reply) → Held (tx_maker (works H) tx) ≡ Held k → (is_some (or_else (tx_refused H tx) o) ≡ true) ⊎ (is_begun H k ≡ true)
+    told tx o same =
+        let number : tx_maker (works H) tx ≡ k = cc in
+        elim (refused_or H tx) [
+          | inl refused ↦ inl (first_told (tx_refused H tx) o refused)
+          | inr begun ↦ inr (subst (λ j. is_begun H j ≡ true) number begun)
+        ]
 
     by : (x : Op) → scope (work_of (works H) x) ≡ Held k → (is_some (told_at_entry H x) ≡ true) ⊎ (is_begun H k ≡ true)
     by (ops.Exec (targets.Label tx) text args) is = told tx _ is
     by (ops.Query label (targets.Label tx) text args) is = told tx _ is
     by (ops.One (targets.Label tx) dests text args) is = told tx _ is
-    by (ops.Begin label target level read_only) is = begin_unheld (works H) target label level read_only k is
-    by (ops.Commit tx) is = closing_unheld (work H (tx_maker (works H) tx)) (tx_maker (works H) tx) k is
-    by (ops.Rollback tx) is = closing_unheld (work H (tx_maker (works H) tx)) (tx_maker (works H) tx) k is
-    by (ops.Ping target) is = ping_unheld (works H) target k is
     by x is = absurd cc
 
 inner_entered : (H : List Event) (client m : ℕ) (op : Op) (k : ℕ) → Lawful (Entered client m op ∷ H) → m ≢ 0 → scope (work (Entered client m op ∷ H) m) ≡ Held k → Inner (Entered client m op ∷ H) m k
@@ -143,7 +132,7 @@ told_scoped H n k w s = by w s
     by (Statement (Held j) task) x = at j x
     by v x = absurd cc
 
-pub done_told : (o : Option TxEnd) → is_some o ≡ true → is_some (done_with o) ≡ true
+done_told : (o : Option TxEnd) → is_some o ≡ true → is_some (done_with o) ≡ true
 done_told None h = absurd cc
 done_told (Some end) h = refl
 
@@ -161,7 +150,7 @@ inside_replies H n k l u s none = by (decided H n) refl (inner H n k l (unfinish
     going : Unsent H n → is_begun H k ≡ true → decided H n ≡ None → is_over H k ≡ false → ⊥
     going unsent begun undecided goes =
         let on : goes_on H k ≡ true = ap (λ b. b && not (is_over H k)) begun ∙ ap (λ b. not b) goes in
-        at on (tx_borrows H k l (held_asks H n k l s begun) on)
+        at on (tx_borrows H k l on)
       where
         at : goes_on H k ≡ true → Borrows H k → ⊥
         at on b =

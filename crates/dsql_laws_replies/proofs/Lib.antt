@@ -1,10 +1,8 @@
 pub mod Awaited
-pub mod Pins
 pub mod Decides
 pub mod Records
 pub mod Begins
 pub mod Awaiting
-pub mod PinOwners
 pub mod Served
 pub mod InnerAwaits
 pub mod InnerOver
@@ -19,4 +17,3 @@ pub mod EndReplies
 pub mod RowsTold
 pub mod Fetches
 pub mod Nowhere
-pub mod PinReplies

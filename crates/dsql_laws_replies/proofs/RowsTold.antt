@@ -42,14 +42,13 @@ use Rattle.dsql_laws_calls.proofs.CallTenures.{call_line, line_of_call, plain_du
 use Rattle.dsql_laws_calls.proofs.Coming.{sound}
 use Rattle.dsql_laws_calls.proofs.Lines.{line_there}
 use Rattle.dsql_laws_calls.proofs.Looks.{comes, heard_there}
-use Rattle.dsql_laws_calls.proofs.Makers.{hands_no_look, hands_out, rows_start_nothing, rows_hand_out, some_changed, some_heard}
+use Rattle.dsql_laws_calls.proofs.Makers.{hands_no_look, hands_out, rows_begin_nothing, rows_hand_out, some_changed, some_heard}
 use Rattle.dsql_laws_calls.proofs.Own.{own_way}
 use Rattle.dsql_laws_calls.proofs.Plain.{line_plain}
 use Rattle.dsql_laws_calls.proofs.RowsNew.{held, were_made}
 use Rattle.dsql_laws_calls.proofs.Stays.{not_looking}
 use Rattle.dsql_laws_calls.proofs.Works.{other_heard, work_stays}
 use Rattle.dsql_laws_replies.proofs.Awaiting.{plain_call}
-use Rattle.dsql_laws_replies.proofs.Pins.{hands_no_pin, starts_no_begin}
 use Rattle.dsql_laws_replies.proofs.Decides.{closing_decides}
 use Rattle.dsql_laws_replies.proofs.Records.{own_record, record_stays, trying_of}
 
@@ -96,7 +95,7 @@ own_over H e l numbered own some =
     sent owner lent its due =
         let n = number_of owner in
         let made : is_some (rows_by H n) ≡ true = ap (λ j. is_some (rows_by H j)) its ∙ some in
-        let call = plain_call H e.conn e.tenure owner l.0 lent (starts_no_begin (work H n) (rows_start_nothing H n made)) (hands_no_pin (work H n) (rows_hand_out H n made)) in
+        let call = plain_call H e.conn e.tenure owner l.0 lent (rows_begin_nothing H n made) in
         let L = heard_in H e.conn e.tenure in
         let asked = asked_by H n in
         let cursor = some_of (own_cursor (exchanges L)) (held H e.conn e.tenure owner l.0 lent made) in

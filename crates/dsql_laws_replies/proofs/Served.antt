@@ -19,12 +19,9 @@ use Rattle.dsql_laws_calls.proofs.laws_work.HandedLines.{SentAt, due_over}
 use Rattle.dsql_laws_calls.proofs.laws_work.Lines.{made_on, goes_due, sent_of}
 use Rattle.dsql_laws_calls.specs.history.declared.record.Try.{Try}
 use Rattle.dsql_laws_calls.specs.history.declared.record.Try.TheVariants.{Served, Refused}
-use Rattle.dsql_laws_calls.specs.history.Readers.Tries.{with_try, was_served, tries, newest_answer, loses}
+use Rattle.dsql_laws_calls.specs.history.Readers.Tries.{with_try, lost, was_served, tries, newest_answer, loses}
 use Rattle.dsql_laws_calls.proofs.laws.Tests.{both, same_number, same_itself, other_number, together}
-use Rattle.dsql_laws_replies.proofs.Awaited.{is_one, awaits}
-use Rattle.dsql_laws_replies.proofs.Pins.{work_needs, needed}
-use Rattle.dsql_laws_calls.proofs.Scopes.{makes_pin}
-use Rattle.dsql_laws_calls.proofs.Pinnings.{still_served, served_asks}
+use Rattle.dsql_laws_replies.proofs.Awaited.{is_one, needs_answer, awaits}
 use Rattle.dsql_laws_calls.specs.history.declared.event.Event.{Event}
 use Rattle.dsql_laws_calls.specs.history.declared.event.Event.TheVariants.{Run, Entered, Heard, Pool, Replied}
 use Rattle.dsql_laws_calls.specs.history.declared.reply.Reply.{Reply}
@@ -33,13 +30,13 @@ use Rattle.dsql_laws_calls.specs.history.declared.work.Work.{Work}
 use Rattle.dsql_laws_calls.specs.history.declared.work.Task.TheVariants as tasks
 use Rattle.dsql_laws_calls.specs.history.declared.work.Work.TheVariants as works_of
 use Rattle.dsql_laws_calls.specs.history.Readers.Course.{caps}
-use Rattle.dsql_laws_calls.specs.history.Readers.Calls.{decided, told_as_pinned, told_of_work, told_by_others, told_as_lent, told_at_lending, reply_due}
+use Rattle.dsql_laws_calls.specs.history.Readers.Calls.{decided, told_by_others, told_as_lent, told_at_lending, reply_due}
 use Rattle.dsql_laws_calls.specs.history.Readers.Decisions.{decision}
 use Rattle.dsql_laws_calls.specs.history.Readers.Journals.{heard_in}
 use Rattle.dsql_laws_calls.specs.history.Readers.Lines.{line_among}
 use Rattle.dsql_laws_calls.specs.history.Readers.Pool.{place, home}
 use Rattle.dsql_laws_calls.specs.history.Readers.Unfinished.{is_unfinished}
-use Rattle.dsql_laws_calls.specs.history.Readers.Works.{work, asks}
+use Rattle.dsql_laws_calls.specs.history.Readers.Works.{work, asks, aim_of}
 use Rattle.dsql_laws_calls.specs.history.Rules.Course.{begins_with_run, goes_forward, ends_once}
 use Rattle.dsql_laws_calls.specs.history.Rules.Line.{is_due, due_in, due_for}
 use Rattle.dsql_laws_calls.specs.history.Rules.Sent.{asked_by, is_reset_due}
@@ -54,10 +51,11 @@ use Rattle.dsql_laws_calls.proofs.Beginnings.{begin_owner, begin_there}
 use Rattle.dsql_laws_calls.proofs.BeginningsAt.{is_answer, heard_same, heard_more, was_unfinished, not_new}
 use Rattle.dsql_laws_calls.proofs.CallTenures.{call_line, line_of_call, plain_due}
 use Rattle.dsql_laws_calls.proofs.LineParts.{grows_own}
+use Rattle.dsql_laws_calls.proofs.Idle.{lends_asker}
 use Rattle.dsql_laws_calls.proofs.Lines.{line_there, line_here, course_of}
 use Rattle.dsql_laws_calls.proofs.Own.{asks_own, OwnWay, own_way, due_line}
 use Rattle.dsql_laws_calls.proofs.Coming.{sound}
-use Rattle.dsql_laws_calls.proofs.Nowhere.{own_settled, others_settled}
+use Rattle.dsql_laws_calls.proofs.Nowhere.{own_settled}
 use Rattle.dsql_laws_calls.proofs.Sound.{same_lent}
 use Rattle.dsql_laws_replies.proofs.Awaiting.{awaited_by, begin_awaited, plain_awaited, awaited_as, Needs, Awaits, plain_call, awaiting_sends, still_awaits, awaits_lent, other_awaits}
 use Rattle.dsql_laws_replies.proofs.Begins.{begin_awaits, BeginSettles, begin_settles}
@@ -66,6 +64,12 @@ use Rattle.dsql_laws_replies.proofs.Records.{own_record, record_stays, fitting, 
 
 never : (b : Bool) → b ≡ true → b ≡ false → ⊥
 never b x y = cc
+
+-- A call that is served after an answer was served before it, and the answer didn't lose the try.
+still_served : (b : Bool) (ts : List Try) → was_served (cond b (lost ts) ts) ≡ true → (b ≡ false) × (was_served ts ≡ true)
+still_served true (Served ∷ ts) h = absurd cc
+still_served false ts h = (refl, h)
+still_served true _ h = absurd cc
 
 not_both : (a b : Bool) → a ≡ true → (a && b) ≡ false → b ≡ false
 not_both true b h k = k
@@ -117,8 +121,7 @@ own_step H e own l is mine asking due needs good before = by (begins (work H (nu
     plain_case : begins (work H (number_of own)) ≡ false → (is_some (decided H (number_of own)) ≡ true) ⊎ (awaits (is_one asked.aim) (heard_in H e.conn e.tenure) (length asked.params) ≡ true)
         → (is_some (after_it H e (number_of own)) ≡ true) ⊎ (awaits (is_one asked.aim) (e ∷ heard_in H e.conn e.tenure) (length asked.params) ≡ true)
     plain_case nobegin b =
-        let need = needed (caps H) (work H (number_of own)) needs in
-        let call = plain_call H e.conn e.tenure own l.0 is nobegin need.1 in
+        let call = plain_call H e.conn e.tenure own l.0 is nobegin in
         let s = sound H l.0 in
         let f = s.facts in
         let made = f.made e.conn e.tenure own is call in
@@ -139,7 +142,7 @@ own_step H e own l is mine asking due needs good before = by (begins (work H (nu
         } in
         or_cases (is_some (after_it H e (number_of own))) (awaits (is_one asked.aim) (e ∷ heard_in H e.conn e.tenure) (length asked.params))
         (settled_on (trying_of H (number_of own)) (caps H) reset asked.text asked.params (work H (number_of own)) wishes.Nothing (heard_in H e.conn e.tenure) e.call
-        e.answer (decided H (number_of own)) asking nobegin need.0 (λ fetch. unlike fetch) x sent (some_or (is_some (decided H (number_of own))) (awaits (is_one asked.aim) (heard_in H e.conn e.tenure) (length asked.params)) b) good)
+        e.answer (decided H (number_of own)) asking nobegin needs (λ fetch. unlike fetch) x sent (some_or (is_some (decided H (number_of own))) (awaits (is_one asked.aim) (heard_in H e.conn e.tenure) (length asked.params)) b) good)
       where
         unlike : wishes.Nothing ≡ wishes.Fetch → ⊥
         unlike h = cc
@@ -167,7 +170,7 @@ settles_own H e n l mine some asking u needs good before = by way
         own_way H e l.0 (comes H e (place H e.conn) there.sets there.line numbered) numbered (ap (λ k. asks (work H k)) number ∙ asking)
 
     by : OwnWay H e → Settles (Heard e ∷ H) n
-    by w = result (own_step H e w.owner l w.lent (ap (λ k. e.call_no == k) its ∙ mine) (ap (λ k. asks (work H k)) its ∙ asking) w.due (ap (λ k. work_needs (caps H) (work H k)) its ∙ needs) (ap (λ k. loses (work H k) e) its ∙ good) (still before))
+    by w = result (own_step H e w.owner l w.lent (ap (λ k. e.call_no == k) its ∙ mine) (ap (λ k. asks (work H k)) its ∙ asking) w.due (ap (λ k. needs_answer (caps H) (aim_of (work H k))) its ∙ needs) (ap (λ k. loses (work H k) e) its ∙ good) (still before))
       where
         its : number_of w.owner ≡ n
         its = w.own ∙ number
@@ -208,6 +211,25 @@ settles_heard H e n l u asking needs good before = by (e.call_no == n) refl befo
 
 -- The events, one by one.
 
+-- A call that was served asks for a connection of its own.
+pub served_asks : (H : List Event) (n : ℕ) → Lawful H → was_served (tries H n) ≡ true → n ≢ 0 → asks (work H n) ≡ true
+served_asks [] n l h some = absurd cc
+served_asks (Entered client m op ∷ H) n l h some =
+    let own = served_asks H n l.0 h some in
+    ap asks (work_stays H (Entered client m op) n (not_looking (work H n) own)) ∙ own
+served_asks (Heard e ∷ H) n l h some = let kept = still_served ((e.call_no == n) && loses (work H n) e) (tries H n) h in served_asks H n l.0 kept.1 some
+served_asks (Pool (Lend c t o m) ∷ H) n l h some = by (λ k. served_asks H n l.0 k some) (m == n) refl h
+  where
+    by : (was_served (tries H n) ≡ true → asks (work H n) ≡ true) → (b : Bool) → (m == n) ≡ b → was_served (with_try b Served (tries H n)) ≡ true → asks (work H n) ≡ true
+    by rest true is k = let same = same_number m n is in subst (λ j. asks (work H j) ≡ true) same (lends_asker H c t o m l.0 l.1 (λ none. some (sym same ∙ none)))
+    by rest false is k = rest k
+served_asks (Pool (Fell c m) ∷ H) n l h some = by (λ k. served_asks H n l.0 k some) (m == n) h
+  where
+    by : (was_served (tries H n) ≡ true → asks (work H n) ≡ true) → (b : Bool) → was_served (with_try b (Refused (newest_answer H)) (tries H n)) ≡ true → asks (work H n) ≡ true
+    by rest true k = absurd cc
+    by rest false k = rest k
+served_asks (_ ∷ H) n l h some = served_asks H n l.0 h some
+
 run_serves_none : (H : List Event) (version : ℕ) (can : Caps) (n : ℕ) → Allowed H (Run version can) → was_served (tries H n) ≡ true → ⊥
 run_serves_none [] version can n a h = cc
 run_serves_none (e ∷ H) version can n a h = let k = both (begins_with_run (e ∷ H) (Run version can)) (goes_forward (e ∷ H) (Run version can) && ends_once (e ∷ H) (Run version can)) (course_of (e ∷ H) (Run version can) a) in not_first k.0
@@ -222,7 +244,7 @@ settles (Entered client m op ∷ H) n l some u h needs =
     let own = served_asks H n l.0 h some in
     let busy = not_looking (work H n) own in
     let apart = not_new H client m op n l.1 busy in
-    let needed : Needs H n = ap (work_needs (caps H)) (sym (work_stays H (Entered client m op) n busy)) ∙ needs in
+    let needed : Needs H n = ap (λ it. needs_answer (caps H) (aim_of it)) (sym (work_stays H (Entered client m op) n busy)) ∙ needs in
     settles_quiet H (Entered client m op) n l refl own u needed (settles H n l.0 some (sym (old_unfinished H client m op n apart) ∙ u) h needed)
 settles (Heard e ∷ H) n l some u h needs =
     let kept = still_served ((e.call_no == n) && loses (work H n) e) (tries H n) h in
@@ -261,21 +283,12 @@ served_decides H n l u h needs none = by (settles H n l (unfinished_from_one H n
         absurd (never (is_some (due_for H n)) (ap (λ d. is_some d) its ∙ awaiting_sends H n l needs a) none)
 
 -- A ping that needs no answer has its reply as it gets its connection.
-told_lent : (can : Caps) (it : Work) (ts : List Try) → work_needs can it ≡ false → asks it ≡ true → makes_pin it ≡ false → was_served ts ≡ true → is_some (told_as_lent can it ts) ≡ true
-told_lent can works_of.Ping (Served ∷ earlier) needless own off h = ap (λ (b : Bool). is_some (cond b None (Some reply.Ok))) needless
-told_lent can (works_of.Statement s tasks.Execute) ts needless own off h = absurd cc
-told_lent can (works_of.Statement s (tasks.ReadOne dests)) ts needless own off h = absurd cc
-told_lent can (works_of.Statement s (tasks.HandOut label)) ts needless own off h = absurd cc
-told_lent can _ _ needless own off h = absurd cc
-
--- So has a call that pins a connection.
-pub told_pinning : (H : List Event) (n : ℕ) (w : Work) → makes_pin w ≡ true → was_served (tries H n) ≡ true → is_some (told_of_work H n w) ≡ true
-told_pinning H n (works_of.Pin label) pins h = by (tries H n) h
-  where
-    by : (ts : List Try) → was_served ts ≡ true → is_some (told_as_pinned H (works_of.Pin label) ts) ≡ true
-    by (Served ∷ earlier) k = refl
-    by _ k = absurd cc
-told_pinning H n w pins h = absurd cc
+told_lent : (can : Caps) (it : Work) (ts : List Try) → needs_answer can (aim_of it) ≡ false → was_served ts ≡ true → is_some (told_as_lent can it ts) ≡ true
+told_lent can works_of.Ping (Served ∷ earlier) needless h = ap (λ (b : Bool). is_some (cond b None (Some reply.Ok))) needless
+told_lent can (works_of.Statement s tasks.Execute) ts needless h = absurd cc
+told_lent can (works_of.Statement s (tasks.ReadOne dests)) ts needless h = absurd cc
+told_lent can (works_of.Statement s (tasks.HandOut label)) ts needless h = absurd cc
+told_lent can _ _ needless h = absurd cc
 
 lent_settled : (o p q : Option Reply) → is_some q ≡ true → is_some (or_else (or_else o p) q) ≡ true
 lent_settled None None q h = h
@@ -283,14 +296,8 @@ lent_settled None (Some other) q h = refl
 lent_settled (Some own) p q h = refl
 
 pub served_replies : (H : List Event) (n : ℕ) → Lawful H → is_unfinished H n ≡ true → was_served (tries H n) ≡ true → is_some (due_for H n) ≡ false → is_some (reply_due H n) ≡ true
-served_replies H n l u h none = by (work_needs (caps H) (work H n)) refl
+served_replies H n l u h none = by (needs_answer (caps H) (aim_of (work H n))) refl
   where
-    unneeded : work_needs (caps H) (work H n) ≡ false → (b : Bool) → makes_pin (work H n) ≡ b → is_some (reply_due H n) ≡ true
-    unneeded needless true pins = others_settled (decided H n) (told_by_others H n) (told_at_lending H n) (told_pinning H n (work H n) pins h)
-    unneeded needless false off =
-        lent_settled (decided H n) (told_by_others H n) (told_at_lending H n)
-        (told_lent (caps H) (work H n) (tries H n) needless (served_asks H n l h (unfinished_from_one H n l u)) off h)
-
-    by : (b : Bool) → work_needs (caps H) (work H n) ≡ b → is_some (reply_due H n) ≡ true
+    by : (b : Bool) → needs_answer (caps H) (aim_of (work H n)) ≡ b → is_some (reply_due H n) ≡ true
     by true needs = own_settled (decided H n) (told_by_others H n) (told_at_lending H n) (served_decides H n l u h needs none)
-    by false needless = unneeded needless (makes_pin (work H n)) refl
+    by false needless = lent_settled (decided H n) (told_by_others H n) (told_at_lending H n) (told_lent (caps H) (work H n) (tries H n) needless h)

@@ -1,7 +1,7 @@
 -- What the layer's core appends is one step: each definition of the core is followed through, event by event.
 use Rattle.std.specs.Prelude.{find}
 use Rattle.std.specs.Option.{option_map}
-use Rattle.std.proofs.Common.{◌≡◌, ◌⊎◌, inl, inr, ℕ, ◌==◌, Bool, true, false, not, ◌&&◌, ◌||◌, cond, List, [], ◌∷◌, ◌++◌, Option, Some, None, Result, Ok, Err, refl, ap, sym, subst, ◌∙◌}
+use Rattle.std.proofs.Common.{◌≡◌, ◌⊎◌, inl, inr, ℕ, ◌==◌, Bool, true, false, not, ◌&&◌, cond, List, [], ◌∷◌, ◌++◌, Option, Some, None, Result, Ok, Err, refl, ap, sym, subst, ◌∙◌}
 use Rattle.dsql_laws.specs.journal.declared.entry.Entry.{Entry}
 use Rattle.dsql_laws.specs.journal.declared.entry.Owner.{Owner}
 use Rattle.dsql_laws.specs.journal.Kinds.{is_house, number_of}
@@ -40,7 +40,7 @@ use Rattle.dsql_laws.proofs.Tests.{same_itself, same_number}
 use Rattle.dsql_laws_callers.proofs.Numbered.{found_there, numbered}
 use Rattle.dsql_laws_callers.proofs.Homes.{found_fits}
 use Rattle.dsql_follows.specs.Moments.{Moment, begins_step, landed, leaver, stepping}
-use Rattle.dsql_laws_steps.specs.Groups.{after_enter, after_end, after_heard, after_control, after_reply, after_settling, asked_so, given_up, gone_on, heard_at, is_used_by_pin, let_go, sends_nothing, unless_resting, with_owed}
+use Rattle.dsql_laws_steps.specs.Groups.{after_enter, after_end, after_heard, after_control, after_reply, after_settling, asked_so, given_up, gone_on, heard_at, let_go, sends_nothing, unless_resting, with_owed}
 use Rattle.dsql_laws_steps.specs.Steps.{IsAtRest, MakesStep, GoesByItself, RestsAlone, goes_by_itself}
 use Rattle.dsql_laws_steps.proofs.Going.{Going, going, begun, goes, goes_moving, moves_ahead, whole}
 
@@ -303,12 +303,12 @@ module _ (m : Moment) (e : Entry) (rest : IsAtRest m) (t : ℕ) (owner : Owner) 
         going = goes m (Heard e) e.call_no (Heard e ∷ []) (Pool move) (begun m (Heard e) rest refl) (ap (λ i. not (i == e.call_no)) s ∙ ap not (same_itself e.call_no)) s refl;
       }
 
-  lets_go : (used : Bool) → (is_used H k || is_used_by_pin H (place H e.conn)) ≡ used → Given m e.call_no (Is (Heard e)) (let_go e.conn k H)
+  lets_go : (used : Bool) → is_used H k ≡ used → Given m e.call_no (Is (Heard e)) (let_go e.conn k H)
   lets_go true used = rw used (record { begun = so_far; none = none })
   lets_go false used = rw used (gives_moves m e.call_no (Is (Heard e)) H e.conn none (leaves (Back e.conn) leaves_step) (λ why. leaves (CloseStart e.conn why) leaves_step))
 
   heard_lent : MakesStep m (Heard e) e.call_no (gone_on e.call_no (let_go e.conn k H))
-  heard_lent = ends_on m (Heard e) e.call_no (let_go e.conn k H) (lets_go (is_used H k || is_used_by_pin H (place H e.conn)) refl)
+  heard_lent = ends_on m (Heard e) e.call_no (let_go e.conn k H) (lets_go (is_used H k) refl)
 
 heard_owned : (m : Moment) (e : Entry) (t : ℕ) (owner : Owner) (house : Bool) → IsAtRest m → RestsAlone m.past e → place m.past e.conn ≡ Some (Lent t owner) → is_house owner ≡ house → MakesStep m (Heard e) e.call_no (heard_at (Some (Lent t owner)) e m.past)
 heard_owned m e t owner true rest alone is house = rw house (with_due m (Heard e) rest refl)

@@ -1,5 +1,5 @@
 -- Defines the events of one step.
-use Rattle.std.specs.Prelude.{ℕ, Bool, not, ◌&&◌, ◌||◌, cond, List, ◌∷◌, Option, Some, None, Result, Err, is_some, ◌≡◌, ◌==◌, true, false, [], ◌++◌}
+use Rattle.std.specs.Prelude.{ℕ, Bool, not, ◌&&◌, cond, List, ◌∷◌, Option, Some, None, Result, Err, is_some, ◌≡◌, ◌==◌, true, false, [], ◌++◌}
 use Rattle.dsql_laws.specs.history.declared.limits.TheConstants.{MAX_EVENTS}
 use Rattle.dsql_laws.specs.journal.declared.entry.Entry.{Entry}
 use Rattle.dsql_laws.specs.journal.Kinds.{is_house, number_of}
@@ -19,7 +19,7 @@ use Rattle.dsql_laws.specs.history.Readers.Pool.{place}
 use Rattle.dsql_laws.specs.history.Readers.Owed.{given_back, owed}
 use Rattle.dsql_laws.specs.history.Readers.Calls.{next_call, reply_due, rests, rests_with}
 use Rattle.dsql_laws.specs.history.Rules.Asking.{may_ask, ask_outcome}
-use Rattle.dsql_laws.specs.history.Rules.Line.{due_for, is_used, uses_pin}
+use Rattle.dsql_laws.specs.history.Rules.Line.{due_for, is_used}
 use Rattle.dsql_laws.specs.Asked.{with_asked}
 use Rattle.dsql_laws.specs.OwedMade.{with_moves}
 use Rattle.dsql_laws.specs.history.Readers.Controls.{told_after}
@@ -75,15 +75,10 @@ gone_on n past = cond (sends_nothing past n) (after_settling n (reply_due past n
 abbrev pub after_enter : List Event → ℕ → Op → List Event
 after_enter past client op = gone_on (next_call past) (with_owed (Entered client (next_call past) op ∷ past))
 
--- Is true if a connection in this place is lent to a pin that uses it.
-abbrev pub is_used_by_pin : List Event → Option Place → Bool
-is_used_by_pin past (Some (Lent tenure owner)) = uses_pin past owner
-is_used_by_pin past _ = false
-
--- Returns the history after connection c is given back, if it isn't in use. It is lent to call n, to the transaction
--- that call n began, or to the pin that call n made.
+-- Returns the history after connection c is given back, if it isn't in use. It is lent to call n, or to the
+-- transaction that call n began.
 abbrev pub let_go : ℕ → ℕ → List Event → List Event
-let_go c n past = cond (is_used past n || is_used_by_pin past (place past c)) past (with_moves (given_back past c) past)
+let_go c n past = cond (is_used past n) past (with_moves (given_back past c) past)
 
 abbrev pub heard_at : Option Place → Entry → List Event → List Event
 heard_at (Some (Lent tenure owner)) e past =

@@ -9,8 +9,7 @@ use Rattle.dsql_laws.specs.history.declared.event.Event.{Event}
 use Rattle.dsql_laws.specs.history.declared.event.Event.TheVariants.{Entered, Heard, Ticked, SetLimit, Waits, Replied, Ended}
 use Rattle.dsql_laws.specs.history.declared.reply.Reply.TheVariants as replies
 use Rattle.dsql_laws.specs.history.Computed.{is_legal}
-use Rattle.dsql_cases_histories.specs.Words.{run, run_plain, x, r, begin, begins, executes_in, fetches, commits, closes_db, open_start, lend_tx, close, house, within, beside}
-use Rattle.dsql_cases_histories.specs.PinWords.{p, pins, unpins, lend_pin, run_pinned, run_pinned_plain}
+use Rattle.dsql_cases_histories.specs.Words.{run, run_plain, x, r, begin, begins, fetches, commits, closes_db, open_start, lend_tx, close, house, within, beside}
 use Rattle.dsql_cases_histories.specs.Begun.{begun, passed_on, queried_twice}
 use Rattle.dsql_laws_steps.specs.Groups.{gone_on, after_enter, after_heard, after_control, after_end}
 
@@ -156,41 +155,4 @@ abbrev pub ended : List Event
 ended =
     begun
     ++ Ended
-    ∷ []
-
--- A history in which a connection is being opened for a pin.
-abbrev pub pinning : List Event
-pinning =
-    run_plain
-    ∷ pins 1 1 p
-    ∷ open_start 1 1
-    ∷ []
-
--- A history in which a connection was lent to a pin.
-abbrev pub lent_to_pin : List Event
-lent_to_pin =
-    pinning
-    ++ house 1 1 calls.Connect answers.Done
-    ∷ lend_pin 1 2 1
-    ∷ []
-
--- A history in which an exec on a pin is under way.
-abbrev pub executing_on_pin : List Event
-executing_on_pin =
-    run_pinned_plain
-    ++ executes_in p 1 2
-    ∷ []
-
--- A history in which the pin was also closed after that.
-abbrev pub executing_once_unpinned : List Event
-executing_once_unpinned =
-    executing_on_pin
-    ++ unpins 2 3 p
-    ∷ []
-
--- A history in which the test of a pin's connection is under way, which its close sent.
-abbrev pub unpinning_to_test : List Event
-unpinning_to_test =
-    run_pinned
-    ++ unpins 1 2 p
     ∷ []

@@ -11,8 +11,7 @@ ghost use Rattle.dsql_laws.specs.history.declared.event.Event.TheVariants.{Ended
 ghost use Rattle.dsql_laws.specs.history.declared.reply.Reply.TheVariants as replies;
 ghost use Rattle.dsql_cases_histories.specs.Begun.{begun, committed, passed_on, waiting};
 ghost use Rattle.dsql_cases_histories.specs.Words.{back, begin, begins, begins_with, beside, close, commits, exec, executes, executes_in, house, lend, lend_tx, one_changed, open_start, run_plain, told_one_changed, within, x, y};
-ghost use Rattle.dsql_cases_histories.specs.PinWords.{lend_pin, p, pinned, pins, run_pinned, run_pinned_plain, unpins};
-ghost use Rattle.dsql_laws_steps.specs.Worked.{GoesOnTo, StepsTo, awaited_by, commit_waits, committing, committing_to_test, ended, executing_on_pin, executing_once_unpinned, fetched, fetched_beside_a_commit, fetching, lent, lent_once_closed, lent_thrice, lent_to_pin, lent_to_test, opening, pinning, testing, unpinning_to_test};
+ghost use Rattle.dsql_laws_steps.specs.Worked.{GoesOnTo, StepsTo, awaited_by, commit_waits, committing, committing_to_test, ended, fetched, fetched_beside_a_commit, fetching, lent, lent_once_closed, lent_thrice, lent_to_test, opening, testing};
 
 /// What follows from a begin: a connection is lent to its transaction or opened for it, or the begin is
 /// refused.
@@ -80,20 +79,4 @@ pub fn worked_commits()
 pub fn worked_ends()
     ensures ends { StepsTo begun Ended [] }
     ensures rolled_back { StepsTo ended (within 1 2 1 0 calls.Rollback answers.Done) (close 1 causes.DbClosed ∷ []) }
-{}
-
-/// What follows from calls on pins. A conn is lent a connection and replies in a step of its own. An exec there leaves
-/// the connection to its pin. It gives the connection back only if the pin was closed. The close of a pin does so after
-/// its test.
-pub fn worked_pins()
-    ensures none_idle { StepsTo (run_plain ∷ []) (pins 1 1 p) (open_start 1 1 ∷ []) }
-    ensures opened { StepsTo pinning (house 1 1 calls.Connect answers.Done) (lend_pin 1 2 1 ∷ []) }
-    ensures told { GoesOnTo lent_to_pin 1 (Replied 1 replies.Ok ∷ []) }
-    ensures enters { StepsTo run_pinned_plain (executes_in p 1 2) [] }
-    ensures done { StepsTo executing_on_pin (pinned 1 2 1 2 exec one_changed) (Replied 2 told_one_changed ∷ []) }
-    ensures done_once_unpinned { StepsTo executing_once_unpinned (pinned 1 2 1 2 exec one_changed)
-        (back 1 ∷ Replied 2 told_one_changed ∷ []) }
-    ensures closes { StepsTo run_pinned (unpins 1 2 p) [] }
-    ensures tested { StepsTo unpinning_to_test (pinned 1 2 1 2 calls.Valid answers.Done)
-        (back 1 ∷ Replied 2 replies.Ok ∷ []) }
 {}

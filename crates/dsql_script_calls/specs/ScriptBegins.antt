@@ -6,7 +6,7 @@ use Rattle.dsql_history.specs.driver.declared.call.Level.TheVariants.{Default, R
 use Rattle.dsql_script_forms.specs.declared.fault.LineFault.{LineFault}
 use Rattle.dsql_script_forms.specs.declared.fault.LineFault.TheVariants.{BadShape, UnknownLabel}
 use Rattle.dsql_script_calls.specs.ScriptWords.{label_of}
-use Rattle.dsql_script_calls.specs.CallTargets.{has_target, target_of}
+use Rattle.dsql_script_calls.specs.CallTargets.{has_target, names_database}
 use Rattle.dsql_history.specs.declared.event.Op.{Op}
 use Rattle.dsql_history.specs.declared.event.Op.TheVariants.{Begin}
 
@@ -14,10 +14,12 @@ use Rattle.dsql_history.specs.declared.event.Op.TheVariants.{Begin}
 abbrev pub CallReading : Type 0
 CallReading = Result Op LineFault
 
--- Returns the call, or `UnknownLabel` if it names a token, since no line makes a token.
-abbrev pub call_under : List (List ℕ) → Op → CallReading
-call_under [] op = Ok op
-call_under tokens op = Err UnknownLabel
+-- Returns a call that can be made on the database alone, without a token. Such a call is never made on rows or
+-- in a transaction, and no line makes a token. So a label or a token that it names beside the database or in
+-- its place is unknown.
+abbrev pub call_on : Bool → Op → CallReading
+call_on true op = Ok op
+call_on false op = Err UnknownLabel
 
 -- Returns the level that a word asks for, or `None` if it asks for none. No word asks for the default level.
 abbrev pub level_of : List ℕ → Option Level
@@ -48,8 +50,8 @@ read_only_first (word ∷ words) = if bytes_eq word (codes "ro") then (true, wor
 -- Returns a begin by its label, its options, its target, and a token or none.
 abbrev pub begin_on : List ℕ → Level → Bool → List ℕ → List (List ℕ) → CallReading
 begin_on label level read_only target tokens =
-    if has_target target tokens then call_under tokens (Begin label (target_of target) level read_only)
-    else Err BadShape
+    if has_target target tokens then call_on (names_database target tokens)
+    (Begin label level read_only) else Err BadShape
 
 abbrev pub begin_under : List ℕ → Level → List ℕ → Bool × List (List ℕ) → CallReading
 begin_under label level target (read_only, tokens) = begin_on label level read_only target tokens

@@ -7,16 +7,21 @@ use Rattle.dsql_history.specs.value.declared.arg.Named.{Named}
 use Rattle.dsql_history.specs.scan.declared.dest.Dest.{Dest}
 use Rattle.dsql_script_spelling.specs.Dests.{dests_of}
 use Rattle.dsql_script_forms.specs.declared.fault.What.TheVariants.{Args}
-use Rattle.dsql_script_forms.specs.declared.fault.LineFault.TheVariants.{NoSuchWord, BadJson, BadShape, TooMany}
+use Rattle.dsql_script_forms.specs.declared.fault.LineFault.TheVariants.{NoSuchWord, BadJson, BadShape, UnknownLabel, TooMany}
 use Rattle.dsql_script_forms.specs.ScriptArgs.{call_of_data, most_args}
-use Rattle.dsql_script_calls.specs.ScriptWords.{label_of}
-use Rattle.dsql_script_calls.specs.CallTargets.{has_token, has_target, target_of, rows_of as label_alone}
+use Rattle.dsql_script_calls.specs.ScriptWords.{is_database, label_of}
+use Rattle.dsql_script_calls.specs.CallTargets.{has_target, names_database, rows_of as label_alone}
 use Rattle.dsql_history.specs.declared.event.Target.{Target}
+use Rattle.dsql_history.specs.declared.event.Target.TheVariants.{Db, Label}
 use Rattle.dsql_history.specs.declared.event.Op.{Op}
 use Rattle.dsql_history.specs.declared.event.Op.TheVariants as op
 use Rattle.dsql_script_calls.specs.declared.calls.Verb.{Verb}
 use Rattle.dsql_script_calls.specs.declared.calls.Verb.TheVariants.{Exec, Query, One}
-use Rattle.dsql_script_calls.specs.ScriptBegins.{CallReading, call_under, begin_of}
+use Rattle.dsql_script_calls.specs.ScriptBegins.{CallReading, call_on, begin_of}
+
+-- Returns the target that a word names: the database, or the transaction with this label.
+abbrev pub target_of : List ℕ → Target
+target_of word = if is_database word then Db else Label word
 
 -- Returns the call that asks this of a text with arguments.
 abbrev pub op_of : Verb → Target → List ℕ → List Named → Op
@@ -31,6 +36,11 @@ dest_count _ = 0
 
 abbrev pub has_too_many : Verb → List Named → Bool
 has_too_many verb args = nat_lt most_args (length args) || nat_lt most_args (dest_count verb)
+
+-- Returns the call, or `UnknownLabel` if it names a token, since no line makes a token.
+abbrev pub call_under : List (List ℕ) → Op → CallReading
+call_under [] op = Ok op
+call_under tokens op = Err UnknownLabel
 
 -- Returns a call whose array has the right shape. The numbers of arguments and destinations are checked before
 -- the names.
@@ -76,14 +86,14 @@ query_of _ array = Err BadShape
 abbrev pub ping_on : List ℕ → List (List ℕ) → Option (List ℕ) → CallReading
 ping_on target tokens (Some array) = Err BadShape
 ping_on target tokens None =
-    if has_target target tokens then call_under tokens (op.Ping (target_of target)) else Err BadShape
+    if has_target target tokens then call_on (names_database target tokens) op.Ping else Err BadShape
 
 -- Returns a ping by the words after it.
 abbrev pub ping_of : List (List ℕ) → Option (List ℕ) → CallReading
 ping_of [] array = Err BadShape
 ping_of (target ∷ tokens) array = ping_on target tokens array
 
--- Returns a call on rows, on a transaction or on a pin by its label, or `BadShape` if there is no label.
+-- Returns a call on rows or on a transaction by its label, or `BadShape` if there is no label.
 abbrev pub label_call : (List ℕ → Op) → Option (List ℕ) → CallReading
 label_call asked None = Err BadShape
 label_call asked (Some label) = Ok (asked label)
@@ -110,32 +120,14 @@ rows_call_by verb words array =
     else if bytes_eq verb (codes "err") then label_call op.Err (label_alone words array)
     else Err NoSuchWord
 
--- Returns a call that pins a connection, by the label of its pin and the words after that. It has no array.
-abbrev pub conn_as : Option (List ℕ) → List (List ℕ) → Option (List ℕ) → CallReading
-conn_as label tokens (Some array) = Err BadShape
-conn_as None tokens None = Err BadShape
-conn_as (Some label) tokens None = if has_token tokens then call_under tokens (op.Conn label) else Err BadShape
-
--- Returns a call that pins a connection, by the words after `conn`.
-abbrev pub conn_of : List (List ℕ) → Option (List ℕ) → CallReading
-conn_of [] array = Err BadShape
-conn_of (label ∷ tokens) array = conn_as (label_of label) tokens array
-
--- Returns a call that makes or closes a pin, or a call on rows, by its first word and the words after it.
-abbrev pub pin_call_by : List ℕ → List (List ℕ) → Option (List ℕ) → CallReading
-pin_call_by verb words array =
-    if bytes_eq verb (codes "conn") then conn_of words array
-    else if bytes_eq verb (codes "connclose") then label_call op.ConnClose (label_alone words array)
-    else rows_call_by verb words array
-
--- Returns a call by its first word and the words after it. It begins or ends a transaction, it makes or closes a pin,
--- or it is made on rows.
+-- Returns a call that begins or ends a transaction, or a call on rows, by its first word and the words after
+-- it.
 abbrev pub tx_call_by : List ℕ → List (List ℕ) → Option (List ℕ) → CallReading
 tx_call_by verb words array =
     if bytes_eq verb (codes "begin") then begin_of words array
     else if bytes_eq verb (codes "commit") then label_call op.Commit (label_alone words array)
     else if bytes_eq verb (codes "rollback") then label_call op.Rollback (label_alone words array)
-    else pin_call_by verb words array
+    else rows_call_by verb words array
 
 -- Returns a call whose word stands alone: no words and no array may follow.
 abbrev pub lone_call : Op → List (List ℕ) → Option (List ℕ) → CallReading

@@ -4,8 +4,7 @@ ghost use Rattle.std.specs.Option.{option_copied};
 ghost use Rattle.dsql_script_spelling.specs.Dests.{dests_of};
 ghost use Rattle.dsql_script_forms.specs.Outcomes.{IsReading};
 ghost use Rattle.dsql_script_calls.specs.ScriptWords.{label_of};
-ghost use Rattle.dsql_script_calls.specs.CallTargets.{target_of};
-ghost use Rattle.dsql_script_calls.specs.ScriptCalls.{call_of, call_by, lone_call, ping_of, ping_on, exec_of, query_of, query_as, one_of, one_into, statement_of, call_of_parts};
+ghost use Rattle.dsql_script_calls.specs.ScriptCalls.{call_of, call_by, lone_call, ping_of, ping_on, exec_of, query_of, query_as, one_of, one_into, statement_of, call_of_parts, target_of};
 
 use crate::{args, array, labels, targets, transactions};
 use dsql_history::{Args, Dests, Items, Op, Target, Txt};
@@ -83,7 +82,7 @@ fn read_call_by(
         "exec" => read_exec(alloc, words, array),
         "query" => read_query(alloc, words, array),
         "one" => read_one(alloc, words, array),
-        "ping" => read_ping(alloc, words, array),
+        "ping" => read_ping(words, array),
         "dbclose" => read_lone(Op::DbClose, words, array),
         "stats" => read_lone(Op::Stats, words, array),
         _ => transactions::read_call(alloc, verb, words, array),
@@ -102,34 +101,28 @@ fn read_lone(op: Op, words: &[&str], array: Option<&str>) -> Result<Op, LineFaul
 }
 
 /// Reads a ping by the words after it.
-fn read_ping(alloc: Global, words: &[&str], array: Option<&str>) -> Result<Op, LineFault>
+fn read_ping(words: &[&str], array: Option<&str>) -> Result<Op, LineFault>
     ensures { IsReading result
         (ping_of (map (λ w. w.now) words.now) (option_copied array.entry)) }
 {
     match words {
-        [target, tokens @ ..] => read_ping_on(alloc, target, tokens, array),
+        [target, tokens @ ..] => read_ping_on(target, tokens, array),
         [] => Err(LineFault::BadShape),
     }
 }
 
 /// Reads a ping by its target and the words after that.
-fn read_ping_on(
-    alloc: Global,
-    target: &str,
-    tokens: &[&str],
-    array: Option<&str>,
-) -> Result<Op, LineFault>
+fn read_ping_on(target: &str, tokens: &[&str], array: Option<&str>) -> Result<Op, LineFault>
     ensures { IsReading result (ping_on target.now
         (map (λ w. w.now) tokens.now) (option_copied array.entry)) }
 {
     if array.is_some() || !targets::has_target(target, tokens) {
         return Err(LineFault::BadShape);
     }
-    if !tokens.is_empty() {
+    if !targets::names_database(target, tokens) {
         return Err(LineFault::UnknownLabel);
     }
-    let target = targets::target_of(alloc, target)?;
-    Ok(Op::Ping { target })
+    Ok(Op::Ping)
 }
 
 /// Reads an exec by the words after it.

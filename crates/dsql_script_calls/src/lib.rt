@@ -1,13 +1,11 @@
 //! Reads the words of a script's lines and the arrays after them, and the calls of clients that they ask for. A
-//! call is made on the database, in a transaction, on a pin or on rows. Or it begins or ends a transaction, or it makes
-//! or closes a pin.
+//! call is made on the database, in a transaction or on rows, or it begins or ends a transaction.
 #![tactic(auto)]
 
 mod args;
 mod array;
 mod calls;
 mod labels;
-mod pins;
 mod rows;
 mod targets;
 mod transactions;

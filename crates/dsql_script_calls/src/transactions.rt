@@ -1,4 +1,4 @@
-//! Reads the calls that begin or end a transaction.
+//! Calls that begin or end a transaction.
 ghost use Rattle.std.specs.Prelude.{◌≡◌, map};
 ghost use Rattle.std.specs.Option.{option_copied};
 ghost use Rattle.dsql_script_forms.specs.Outcomes.{IsReading};
@@ -6,13 +6,12 @@ ghost use Rattle.dsql_script_calls.specs.ScriptWords.{label_of};
 ghost use Rattle.dsql_script_calls.specs.ScriptBegins.{level_of, level_first, read_only_first, begin_as, begin_of};
 ghost use Rattle.dsql_script_calls.specs.ScriptCalls.{tx_call_by};
 
-use crate::{labels, pins, targets};
+use crate::{labels, rows, targets};
 use dsql_history::{Level, Op};
 use dsql_script_forms::LineFault;
 use std::alloc::Global;
 
-/// Reads a call by its first word and the words after it. It begins or ends a transaction, it makes or closes a pin, or
-/// it is made on rows.
+/// Reads a call that begins or ends a transaction, or a call on rows, by its first word and the words after it.
 pub fn read_call(
     alloc: Global,
     verb: &str,
@@ -32,7 +31,7 @@ pub fn read_call(
             let tx = labels::read_label_alone(alloc, words, array)?;
             Ok(Op::Rollback { tx })
         }
-        _ => pins::read_call(alloc, verb, words, array),
+        _ => rows::read_call(alloc, verb, words, array),
     }
 }
 
@@ -67,13 +66,11 @@ fn read_begin_as(
     if !targets::has_target(target, tokens) {
         return Err(LineFault::BadShape);
     }
-    if !tokens.is_empty() {
+    if !targets::names_database(target, tokens) {
         return Err(LineFault::UnknownLabel);
     }
-    let target = targets::target_of(alloc, target)?;
     Ok(Op::Begin {
         label,
-        target,
         level,
         read_only,
     })

@@ -21,7 +21,7 @@ is_client client = nat_le 1 client && nat_le client most_clients
 -- Is true if the target is the database or a label that is a name.
 abbrev pub is_named_target : Target → Bool
 is_named_target targets.Db = true
-is_named_target (targets.Label label) = is_name label
+is_named_target (targets.Label tx) = is_name tx
 
 -- Is true if each label of the operation is a name, and it has a destination if its kind needs one.
 abbrev pub is_named_op : Op → Bool
@@ -32,12 +32,9 @@ is_named_op (op.Next rows) = is_name rows
 is_named_op (op.Scan rows dests) = is_name rows && has_dests dests
 is_named_op (op.RowsClose rows) = is_name rows
 is_named_op (op.Err rows) = is_name rows
-is_named_op (op.Begin label target level read_only) = is_name label && is_named_target target
+is_named_op (op.Begin label level read_only) = is_name label
 is_named_op (op.Commit tx) = is_name tx
 is_named_op (op.Rollback tx) = is_name tx
-is_named_op (op.Conn label) = is_name label
-is_named_op (op.ConnClose pin) = is_name pin
-is_named_op (op.Ping target) = is_named_target target
 is_named_op _ = true
 
 -- Is true if a report may show the event. The client of an entry is one of a script, and the labels and

@@ -13,7 +13,7 @@ fn is_named_target(target: &Target) -> bool
 {
     match target {
         Target::Db => true,
-        Target::Label(label) => is_name(label.as_str()),
+        Target::Label(tx) => is_name(tx.as_str()),
     }
 }
 
@@ -26,12 +26,9 @@ fn is_named_op(op: &Op) -> bool
         Op::One { target, dests, .. } => is_named_target(target) && !dests.as_slice().is_empty(),
         Op::Next { rows } | Op::RowsClose { rows } | Op::Err { rows } => is_name(rows.as_str()),
         Op::Scan { rows, dests } => is_name(rows.as_str()) && !dests.as_slice().is_empty(),
-        Op::Begin { label, target, .. } => is_name(label.as_str()) && is_named_target(target),
+        Op::Begin { label, .. } => is_name(label.as_str()),
         Op::Commit { tx } | Op::Rollback { tx } => is_name(tx.as_str()),
-        Op::Conn { label } => is_name(label.as_str()),
-        Op::ConnClose { pin } => is_name(pin.as_str()),
-        Op::Ping { target } => is_named_target(target),
-        Op::DbClose | Op::Stats => true,
+        Op::Ping | Op::DbClose | Op::Stats => true,
     }
 }
 

@@ -27,7 +27,7 @@ some_dests (dest ∷ dests) some = omega arith
 
 named_target : (target : Target) → is_named_target target ≡ true → IsTarget target
 named_target targets.Db named = tt
-named_target (targets.Label label) named = named
+named_target (targets.Label tx) named = named
 
 pub op_is_read_back : (client n : ℕ) (o : Op) → is_named_op o ≡ true → OpFits o → op_in (entered_data client n o) ≡ Some o
 op_is_read_back client n (op.Exec target text args) named fits =
@@ -48,10 +48,7 @@ op_is_read_back client n (op.Scan rows dests) named fits =
     let parts = and_parts (is_name rows) (has_dests dests) named in
     ap (λ words. op_of words (entered_data client n (op.Scan rows dests))) (words_of_scan rows dests parts.0)
     ∙ rw (dests_are_read_back dests (some_dests dests parts.1)) refl
-op_is_read_back client n (op.Begin label target level read_only) named fits =
-    let parts = and_parts (is_name label) (is_named_target target) named in
-    ap result_ok (call_is_read (op.Begin label target level read_only) None (parts.0, named_target target parts.1) tt)
-op_is_read_back client n (op.Ping target) named fits = ap result_ok (call_is_read (op.Ping target) None (named_target target named) tt)
+op_is_read_back client n op.Ping named fits = refl
 op_is_read_back client n op.DbClose named fits = refl
 op_is_read_back client n op.Stats named fits = refl
 op_is_read_back client n x named fits = ap result_ok (call_is_read x None named tt)

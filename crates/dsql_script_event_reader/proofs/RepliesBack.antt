@@ -10,19 +10,17 @@ use Rattle.dsql_history.specs.rows.declared.end.RowsOver.{RowsOver}
 use Rattle.dsql_history.specs.rows.declared.end.RowsOver.TheVariants as over
 use Rattle.dsql_history.specs.tx.declared.end.TxEnd.{TxEnd}
 use Rattle.dsql_history.specs.tx.declared.end.TxEnd.TheVariants as tx_end
-use Rattle.dsql_history.specs.pin.declared.end.PinEnd.{PinEnd}
-use Rattle.dsql_history.specs.pin.declared.end.PinEnd.TheVariants as pin_end
 use Rattle.dsql_history.specs.works.declared.fault_word.FaultWord.{FaultWord}
 use Rattle.dsql_history.specs.works.declared.fault_word.FaultWord.TheVariants as fault
 use Rattle.dsql_history.specs.declared.reply.DbEnd.{DbEnd}
 use Rattle.dsql_history.specs.declared.reply.DbEnd.TheVariants as db_end
 use Rattle.dsql_script_spelling.specs.LineValues.{cell_data, cells_data, texts_data}
 use Rattle.dsql_script_report.specs.LineCalls.{level_word}
-use Rattle.dsql_script_report.specs.LineReplies.{over_word, fault_word, db_end_word, stats_data, tx_end_word, pin_end_word, reply_data}
+use Rattle.dsql_script_report.specs.LineReplies.{over_word, fault_word, db_end_word, stats_data, tx_end_word, reply_data}
 use Rattle.dsql_script_read_back.proofs.ReadNumbers.{as_i64_signed}
 use Rattle.dsql_script_read_back.proofs.ReadTexts.{IsRead, deeper}
 use Rattle.dsql_script_event_reader.specs.DriverForms.{level_of}
-use Rattle.dsql_script_event_reader.specs.ReplyForms.{over_of, fault_of, db_end_of, tx_end_of, pin_end_of, reply_of}
+use Rattle.dsql_script_event_reader.specs.ReplyForms.{over_of, fault_of, db_end_of, tx_end_of, reply_of}
 use Rattle.dsql_script_event_reader.specs.Values.{cell_of}
 use Rattle.dsql_script_event_reader.specs.Fits.{CellFits, StatsFit, ReplyFits}
 use Rattle.dsql_script_event_reader.proofs.MovesBack.{in_word}
@@ -40,10 +38,6 @@ tx_end_is_read_back : (e : TxEnd) → tx_end_of (tx_end_word e) ≡ Some e
 tx_end_is_read_back (tx_end.Cancel Canceled) = refl
 tx_end_is_read_back (tx_end.Cancel Deadline) = refl
 tx_end_is_read_back _ = refl
-
-pin_end_is_read_back : (e : PinEnd) → pin_end_of (pin_end_word e) ≡ Some e
-pin_end_is_read_back pin_end.Close = refl
-pin_end_is_read_back _ = refl
 
 level_is_read_back : (l : Level) → level_of (level_word l) ≡ Some l
 level_is_read_back level.Default = refl
@@ -64,7 +58,6 @@ reply_is_read_back (reply.Cells cells) fits = rw (each_is_read_back cell_of cell
 reply_is_read_back (reply.BadConn tries) fits = rw (in_word tries fits) refl
 reply_is_read_back (reply.NumArgs want got) fits = rw (in_word want fits.0, in_word got fits.1) refl
 reply_is_read_back (reply.TxDone by) fits = rw (tx_end_is_read_back by) refl
-reply_is_read_back (reply.ConnDone by) fits = rw (pin_end_is_read_back by) refl
 reply_is_read_back (reply.RowsClosed over) fits = rw (over_is_read_back over) refl
 reply_is_read_back (reply.Isolation level) fits = rw (level_is_read_back level) refl
 reply_is_read_back (reply.DestCount want got) fits = rw (in_word want fits.0, in_word got fits.1) refl

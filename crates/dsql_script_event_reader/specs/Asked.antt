@@ -13,8 +13,7 @@ use Rattle.dsql_script_event_lines.specs.Parts.{text_at}
 use Rattle.dsql_history.specs.declared.event.Target.{Target}
 use Rattle.dsql_history.specs.declared.event.Op.{Op}
 use Rattle.dsql_history.specs.declared.event.Op.TheVariants.{Exec, Query, One, Scan}
-use Rattle.dsql_script_calls.specs.CallTargets.{target_of}
-use Rattle.dsql_script_calls.specs.ScriptCalls.{call_of}
+use Rattle.dsql_script_calls.specs.ScriptCalls.{target_of, call_of}
 
 -- Returns the text and the arguments of the call in an `enter` line.
 abbrev pub statement_in : Data → Option (List ℕ × List Named)

@@ -14,8 +14,6 @@ use Rattle.dsql_script_event_lines.specs.Parts.{natural_at, number_at, integer_a
 use Rattle.serde_json.specs.Find.{at, as_str}
 use Rattle.dsql_history.specs.tx.declared.end.TxEnd.{TxEnd}
 use Rattle.dsql_history.specs.tx.declared.end.TxEnd.TheVariants as tx_end
-use Rattle.dsql_history.specs.pin.declared.end.PinEnd.{PinEnd}
-use Rattle.dsql_history.specs.pin.declared.end.PinEnd.TheVariants as pin_end
 use Rattle.dsql_script_event_reader.specs.Values.{cell_of}
 use Rattle.dsql_script_event_reader.specs.DriverForms.{level_of}
 use Rattle.dsql_history.specs.declared.reply.Reply.{Reply}
@@ -83,15 +81,6 @@ tx_end_of word =
     else if bytes_eq word (codes "end") then Some tx_end.EndOfRun
     else None
 
--- Returns what ended a pin, by its word.
-abbrev pub pin_end_of : List ℕ → Option PinEnd
-pin_end_of word =
-    if bytes_eq word (codes "close") then Some pin_end.Close
-    else if bytes_eq word (codes "bad") then Some pin_end.BadConn
-    else if bytes_eq word (codes "discard") then Some pin_end.Discard
-    else if bytes_eq word (codes "end") then Some pin_end.EndOfRun
-    else None
-
 abbrev pub result_of : Data → Option Reply
 result_of d = option_and_then (λ last. option_map (reply.Result last) (integer_at 3 d)) (integer_at 2 d)
 
@@ -122,11 +111,10 @@ abbrev pub scan_of : Data → Option Reply
 scan_of d =
     option_and_then (λ column. option_map (reply.Scan column) (option_and_then fault_of (text_at 3 d))) (number_at 2 d)
 
--- Returns an error of a transaction or a pin by its code.
+-- Returns an error of a transaction by its code.
 abbrev pub tx_error : List ℕ → Data → Option Reply
 tx_error code d =
     if bytes_eq code (codes "tx_done") then option_map reply.TxDone (option_and_then tx_end_of (text_at 2 d))
-    else if bytes_eq code (codes "conn_done") then option_map reply.ConnDone (option_and_then pin_end_of (text_at 2 d))
     else if bytes_eq code (codes "isolation") then option_map reply.Isolation (option_and_then level_of (text_at 2 d))
     else if bytes_eq code (codes "read_only") then Some reply.ReadOnly
     else None

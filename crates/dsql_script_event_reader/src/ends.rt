@@ -1,8 +1,8 @@
-//! Returns what ended rows, a transaction, a pin or the database, by its word.
+//! What ended rows, a transaction or the database, by its word.
 ghost use Rattle.std.specs.Prelude.{◌≡◌};
-ghost use Rattle.dsql_script_event_reader.specs.ReplyForms.{over_of, db_end_of, tx_end_of, pin_end_of};
+ghost use Rattle.dsql_script_event_reader.specs.ReplyForms.{over_of, db_end_of, tx_end_of};
 
-use dsql_history::{Cause, DbEnd, PinEnd, RowsOver, TxEnd};
+use dsql_history::{Cause, DbEnd, RowsOver, TxEnd};
 
 /// Returns what ended rows.
 pub fn over_of(word: &str) -> Option<RowsOver>
@@ -42,19 +42,6 @@ pub fn tx_end_of(word: &str) -> Option<TxEnd>
         "canceled" => Some(TxEnd::Cancel(Cause::Canceled)),
         "deadline" => Some(TxEnd::Cancel(Cause::Deadline)),
         "end" => Some(TxEnd::EndOfRun),
-        _ => None,
-    }
-}
-
-/// Returns what ended a pin.
-pub fn pin_end_of(word: &str) -> Option<PinEnd>
-    ensures { result ≡ pin_end_of word.now }
-{
-    match word {
-        "close" => Some(PinEnd::Close),
-        "bad" => Some(PinEnd::BadConn),
-        "discard" => Some(PinEnd::Discard),
-        "end" => Some(PinEnd::EndOfRun),
         _ => None,
     }
 }

@@ -5,9 +5,8 @@ ghost use Rattle.dsql_history.specs.cancel.declared.token.Cause.TheVariants as c
 ghost use Rattle.dsql_history.specs.driver.declared.call.Level.TheVariants as level;
 ghost use Rattle.dsql_history.specs.driver.declared.call.DriverCall.TheVariants as call;
 ghost use Rattle.dsql_history.specs.driver.declared.answer.DriverAnswer.TheVariants as answer;
-ghost use Rattle.dsql_history.specs.journal.declared.entry.Owner.TheVariants.{Tx, Pin};
+ghost use Rattle.dsql_history.specs.journal.declared.entry.Owner.TheVariants.{Tx};
 ghost use Rattle.dsql_history.specs.tx.declared.end.TxEnd.TheVariants as end;
-ghost use Rattle.dsql_history.specs.pin.declared.end.PinEnd.TheVariants as pin_end;
 ghost use Rattle.dsql_history.specs.pool.declared.moves.Move.TheVariants.{Back, Lend};
 ghost use Rattle.dsql_history.specs.declared.event.Setting.TheVariants.{MaxOpen};
 ghost use Rattle.dsql_history.specs.declared.event.Op.TheVariants as op;
@@ -35,13 +34,13 @@ pub fn lines_tell_their_events()
 pub fn worked_transaction_lines()
     ensures lend { reading_of (codes "[\"lend\",1,2,\"tx:7\"]") ≡ Ok (Pool (Lend 1 2 (Tx 7) 7)) }
     ensures begin { reading_of (codes "[\"enter\",1,2,\"begin x db\"]")
-        ≡ Ok (Entered 1 2 (op.Begin (codes "x") target.Db level.Default false)) }
+        ≡ Ok (Entered 1 2 (op.Begin (codes "x") level.Default false)) }
     ensures read_only { reading_of (codes "[\"enter\",1,2,\"begin x db ro\"]")
-        ≡ Ok (Entered 1 2 (op.Begin (codes "x") target.Db level.Default true)) }
+        ≡ Ok (Entered 1 2 (op.Begin (codes "x") level.Default true)) }
     ensures leveled { reading_of (codes "[\"enter\",1,2,\"begin x db level=serializable\"]")
-        ≡ Ok (Entered 1 2 (op.Begin (codes "x") target.Db level.Serializable false)) }
+        ≡ Ok (Entered 1 2 (op.Begin (codes "x") level.Serializable false)) }
     ensures both { reading_of (codes "[\"enter\",1,2,\"begin x db level=snapshot ro\"]")
-        ≡ Ok (Entered 1 2 (op.Begin (codes "x") target.Db level.Snapshot true)) }
+        ≡ Ok (Entered 1 2 (op.Begin (codes "x") level.Snapshot true)) }
     ensures commit { reading_of (codes "[\"enter\",1,2,\"commit x\"]") ≡ Ok (Entered 1 2 (op.Commit (codes "x"))) }
     ensures rollback { reading_of (codes "[\"enter\",1,2,\"rollback x\"]")
         ≡ Ok (Entered 1 2 (op.Rollback (codes "x"))) }
@@ -80,46 +79,12 @@ pub fn worked_transaction_lines()
         ≡ Ok (Replied 3 reply.ReadOnly) }
 {}
 
-/// Lines of pins, each with the event that it is read as. A line alone doesn't say whether a label stands for a pin.
-pub fn worked_pin_lines()
-    ensures lend { reading_of (codes "[\"lend\",1,2,\"pin:7\"]") ≡ Ok (Pool (Lend 1 2 (Pin 7) 7)) }
-    ensures conn { reading_of (codes "[\"enter\",1,2,\"conn p\"]") ≡ Ok (Entered 1 2 (op.Conn (codes "p"))) }
-    ensures conn_close { reading_of (codes "[\"enter\",1,2,\"connclose p\"]")
-        ≡ Ok (Entered 1 2 (op.ConnClose (codes "p"))) }
-    ensures begin { reading_of (codes "[\"enter\",1,2,\"begin x p level=snapshot ro\"]")
-        ≡ Ok (Entered 1 2 (op.Begin (codes "x") (target.Label (codes "p")) level.Snapshot true)) }
-    ensures ping { reading_of (codes "[\"enter\",1,2,\"ping p\"]")
-        ≡ Ok (Entered 1 2 (op.Ping (target.Label (codes "p")))) }
-    ensures heard { reading_of (codes "[\"heard\",1,2,\"pin:3\",4,0,[\"ping\"],[\"done\"]]")
-        ≡ Ok (Heard (record {
-          conn = 1;
-          tenure = 2;
-          owner = Pin 3;
-          call_no = 4;
-          tx = 0;
-          call = call.Ping;
-          answer = answer.Done;
-        })) }
-    ensures closed { reading_of
-        (codes "[\"reply\",3,[\"err\",\"conn_done\",\"close\",\"sql: connection is already closed\"]]")
-        ≡ Ok (Replied 3 (reply.ConnDone pin_end.Close)) }
-    ensures bad { reading_of
-        (codes "[\"reply\",3,[\"err\",\"conn_done\",\"bad\",\"sql: connection is already closed\"]]")
-        ≡ Ok (Replied 3 (reply.ConnDone pin_end.BadConn)) }
-    ensures discarded { reading_of
-        (codes "[\"reply\",3,[\"err\",\"conn_done\",\"discard\",\"sql: connection is already closed\"]]")
-        ≡ Ok (Replied 3 (reply.ConnDone pin_end.Discard)) }
-    ensures end_of_run { reading_of
-        (codes "[\"reply\",3,[\"err\",\"conn_done\",\"end\",\"sql: connection is already closed\"]]")
-        ≡ Ok (Replied 3 (reply.ConnDone pin_end.EndOfRun)) }
-{}
-
-/// Lines of no transaction and no pin, each with the event that it is read as.
+/// Lines of no transaction, each with the event that it is read as.
 pub fn worked_event_lines()
     ensures back { reading_of (codes "[\"back\",4294967295]") ≡ Ok (Pool (Back 4294967295)) }
     ensures limit { reading_of (codes "[\"set\",\"maxopen\",2]") ≡ Ok (SetLimit MaxOpen (pos 2)) }
     ensures next { reading_of (codes "[\"enter\",1,2,\"next r\"]") ≡ Ok (Entered 1 2 (op.Next (codes "r"))) }
-    ensures ping { reading_of (codes "[\"enter\",1,2,\"ping db\"]") ≡ Ok (Entered 1 2 (op.Ping target.Db)) }
+    ensures ping { reading_of (codes "[\"enter\",1,2,\"ping db\"]") ≡ Ok (Entered 1 2 op.Ping) }
     ensures client_64 { reading_of (codes "[\"enter\",64,1,\"dbclose\"]") ≡ Ok (Entered 64 1 op.DbClose) }
     ensures ended { reading_of (codes "[\"ended\"]") ≡ Ok Ended }
 {}
@@ -135,24 +100,17 @@ pub fn worked_refusals()
     ensures more { reading_of (codes "[\"back\",1,2]") ≡ Err BadShape }
     ensures no_word { reading_of (codes "[1]") ≡ Err BadShape }
     ensures no_name { reading_of (codes "[\"enter\",1,2,\"next R\"]") ≡ Err BadShape }
-    ensures ping_of_no_label { reading_of (codes "[\"enter\",1,2,\"ping R\"]") ≡ Err BadShape }
-    ensures conn_of_database { reading_of (codes "[\"enter\",1,2,\"conn db\"]") ≡ Err BadShape }
-    ensures conn_on_label { reading_of (codes "[\"enter\",1,2,\"conn p x\"]") ≡ Err BadShape }
-    ensures conn_under_token { reading_of (codes "[\"enter\",1,2,\"conn p @k\"]") ≡ Err BadShape }
-    ensures close_of_no_label { reading_of (codes "[\"enter\",1,2,\"connclose\"]") ≡ Err BadShape }
+    ensures ping_of_label { reading_of (codes "[\"enter\",1,2,\"ping r\"]") ≡ Err BadShape }
     ensures memory { reading_of (codes "[\"heard\",1,1,\"house\",0,0,[\"connect\"],[\"memory\"]]") ≡ Err BadShape }
     ensures no_client { reading_of (codes "[\"enter\",0,1,\"stats\"]") ≡ Err BadShape }
     ensures client_65 { reading_of (codes "[\"enter\",65,1,\"stats\"]") ≡ Err BadShape }
     ensures line_feed { reading_of (codes "[\"ended\"]\n") ≡ Err BadShape }
     ensures default_level { reading_of (codes "[\"enter\",1,2,\"begin x db level=default\"]") ≡ Err BadShape }
     ensures out_of_order { reading_of (codes "[\"enter\",1,2,\"begin x db ro level=snapshot\"]") ≡ Err BadShape }
-    ensures begin_on_no_label { reading_of (codes "[\"enter\",1,2,\"begin y X\"]") ≡ Err BadShape }
-    ensures begin_without_target { reading_of (codes "[\"enter\",1,2,\"begin y\"]") ≡ Err BadShape }
+    ensures begin_in_transaction { reading_of (codes "[\"enter\",1,2,\"begin y x\"]") ≡ Err BadShape }
     ensures token { reading_of (codes "[\"enter\",1,2,\"exec x @k\",[\"SET a 1\"]]") ≡ Err BadShape }
     ensures no_target { reading_of (codes "[\"enter\",1,2,\"exec X\",[\"SET a 1\"]]") ≡ Err BadShape }
     ensures commit_of_database { reading_of (codes "[\"enter\",1,2,\"commit db\"]") ≡ Err BadShape }
-    ensures no_such_pin_end { reading_of
-        (codes "[\"reply\",3,[\"err\",\"conn_done\",\"rollback\",\"sql: connection is already closed\"]]") ≡ Err BadShape }
     ensures no_such_end { reading_of
         (codes "[\"reply\",3,[\"err\",\"tx_done\",\"close\",\"sql: transaction has already been committed or rolled back\"]]") ≡ Err BadShape }
 {}

@@ -14,7 +14,7 @@ mod values;
 
 pub use dsql_script_forms::LineFault;
 pub use laws::{
-    lines_tell_their_events, spelled_events_are_read_back, worked_event_lines, worked_pin_lines,
-    worked_refusals, worked_transaction_lines,
+    lines_tell_their_events, spelled_events_are_read_back, worked_event_lines, worked_refusals,
+    worked_transaction_lines,
 };
 pub use reader::read_event;

@@ -8,7 +8,7 @@ ghost use Rattle.dsql_history.specs.declared.reply.Reply.TheVariants as reply;
 ghost use Rattle.dsql_script_event_reader.specs.ReplyForms as form;
 
 use crate::driver_calls::level_of;
-use crate::ends::{db_end_of, over_of, pin_end_of, tx_end_of};
+use crate::ends::{db_end_of, over_of, tx_end_of};
 use crate::values::{cells_at, texts_at};
 use dsql_history::{FaultWord, Reply, Stats};
 use dsql_script_event_lines::{copy_at, integer_at, natural_at, number_at, text_at};
@@ -129,7 +129,6 @@ fn read_tx_error(code: &str, line: &Value) -> Option<Reply>
 {
     match code {
         "tx_done" => tx_end_of(text_at(line, 2)?).map(Reply::TxDone),
-        "conn_done" => pin_end_of(text_at(line, 2)?).map(Reply::ConnDone),
         "isolation" => level_of(text_at(line, 2)?).map(Reply::Isolation),
         "read_only" => Some(Reply::ReadOnly),
         _ => None,

@@ -27,7 +27,7 @@ use Rattle.dsql_script_reader.specs.declared.script.Head.{Head}
 use Rattle.dsql_script_reader.specs.declared.script.ScriptLine.TheVariants.{Client}
 use Rattle.dsql_script_reader.specs.ScriptLabels.{MadeLabel, label_fault}
 use Rattle.dsql_script_reader.specs.ScriptLines.{Reading, client_line, form_of, unless_fault, among_labels}
-use Rattle.dsql_script_read_back.proofs.ReadTargets.{not_database, words_of_ping, words_of_exec, words_of_query, words_of_one}
+use Rattle.dsql_script_read_back.proofs.ReadTargets.{not_database, words_of_exec, words_of_query, words_of_one}
 use Rattle.dsql_script_read_back.proofs.ReadBegins.{begin_is_read_back}
 
 abbrev is_comma : ℕ → Bool
@@ -89,13 +89,10 @@ call_is_read (op.Scan rows dests) None may seen =
     ∙ rw (may.0, dests_are_read_back dests may.1.0, le-ltb most_args (length dests) may.1.1) refl
 call_is_read (op.RowsClose rows) None may seen = ap (λ words. call_of (codes "rowsclose" ∷ words) None) (words_of_rows rows may) ∙ rw may refl
 call_is_read (op.Err rows) None may seen = ap (λ words. call_of (codes "err" ∷ words) None) (words_of_rows rows may) ∙ rw may refl
-call_is_read (op.Begin label target level read_only) None may seen = begin_is_read_back label target level read_only may.0 may.1
+call_is_read (op.Begin label level read_only) None may seen = begin_is_read_back label level read_only may
 call_is_read (op.Commit tx) None may seen = ap (λ words. call_of (codes "commit" ∷ words) None) (words_of_rows tx may) ∙ rw may refl
 call_is_read (op.Rollback tx) None may seen = ap (λ words. call_of (codes "rollback" ∷ words) None) (words_of_rows tx may) ∙ rw may refl
-call_is_read (op.Conn label) None may seen = ap (λ words. call_of (codes "conn" ∷ words) None) (words_of_rows label may) ∙ rw may refl
-call_is_read (op.ConnClose pin) None may seen = ap (λ words. call_of (codes "connclose" ∷ words) None) (words_of_rows pin may) ∙ rw may refl
-call_is_read (op.Ping Db) None may seen = refl
-call_is_read (op.Ping (Label pin)) None may seen = ap (λ words. call_of words None) (words_of_ping (Label pin) may) ∙ rw (not_database pin may, may) refl
+call_is_read op.Ping None may seen = refl
 call_is_read op.DbClose None may seen = refl
 call_is_read op.Stats None may seen = refl
 call_is_read _ _ may seen = absurd seen

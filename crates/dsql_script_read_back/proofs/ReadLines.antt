@@ -36,12 +36,9 @@ op_lacks (op.Next rows) may = label_lacks bracket rows refl may
 op_lacks (op.Scan rows dests) may = lacks_both bracket rows (codes " " ++ dests_word dests) (label_lacks bracket rows refl may.0) (dests_lack_bracket dests)
 op_lacks (op.RowsClose rows) may = label_lacks bracket rows refl may
 op_lacks (op.Err rows) may = label_lacks bracket rows refl may
-op_lacks (op.Begin label target level read_only) may = begin_lacks label target level read_only may.0 may.1
+op_lacks (op.Begin label level read_only) may = begin_lacks label level read_only may
 op_lacks (op.Commit tx) may = label_lacks bracket tx refl may
 op_lacks (op.Rollback tx) may = label_lacks bracket tx refl may
-op_lacks (op.Conn label) may = label_lacks bracket label refl may
-op_lacks (op.ConnClose pin) may = label_lacks bracket pin refl may
-op_lacks (op.Ping target) may = target_lacks bracket target refl refl may
 op_lacks _ may = refl
 
 line_lacks : (held : Bool) (word : List ℕ) (o : Op) → Lacks bracket word → MayBeAsked o → Lacks bracket (words_text held word o)

@@ -1,4 +1,4 @@
--- A call's target is read back, and so are the words that a report shows for a call with a text and for a ping.
+-- A call's target is read back, and so are the words that a report shows for a call with a text.
 use Rattle.std.proofs.Common.{◌≡◌, ℕ, List, [], ◌∷◌, ◌++◌, true, false, ◌&&◌, length, codes, refl, ap, ◌∙◌}
 use Rattle.std.specs.Prelude.{not, nat_le}
 use Rattle.std.specs.Char.{is_ascii_lowercase}
@@ -12,11 +12,11 @@ use Rattle.dsql_script_read_back.proofs.WordBytes.{Lacks, label_lacks, dests_lac
 use Rattle.dsql_history.specs.declared.event.Target.{Target}
 use Rattle.dsql_history.specs.declared.event.Target.TheVariants.{Db, Label}
 use Rattle.dsql_script_report.specs.LineOps.{target_word}
-use Rattle.dsql_script_calls.specs.CallTargets.{target_of}
+use Rattle.dsql_script_calls.specs.ScriptCalls.{target_of}
 use Rattle.dsql_script_read_back.specs.ReadBack.{IsTarget}
 
 -- A name isn't the word for the database.
-pub not_database : (label : List ℕ) → is_name label ≡ true → is_database label ≡ false
+pub not_database : (tx : List ℕ) → is_name tx ≡ true → is_database tx ≡ false
 not_database [] name = refl
 not_database (first ∷ rest) name =
     let front = is_ascii_lowercase first && nat_le (length rest) most_name_rest && list_all is_name_byte rest in
@@ -24,20 +24,17 @@ not_database (first ∷ rest) name =
 
 pub target_is_read_back : (target : Target) → IsTarget target → target_of (target_word target) ≡ target
 target_is_read_back Db is = refl
-target_is_read_back (Label label) is = rw (not_database label is) refl
+target_is_read_back (Label tx) is = rw (not_database tx is) refl
 
 pub target_lacks : (c : ℕ) (target : Target) → Lacks c (codes "db") → is_name_byte c ≡ false → IsTarget target → Lacks c (target_word target)
 target_lacks c Db database other is = database
-target_lacks c (Label label) database other is = label_lacks c label other is
+target_lacks c (Label tx) database other is = label_lacks c tx other is
 
-pub target_alone : (target : Target) → IsTarget target → spaced_words (target_word target) ≡ target_word target ∷ []
+target_alone : (target : Target) → IsTarget target → spaced_words (target_word target) ≡ target_word target ∷ []
 target_alone target is = alone (target_word target) (target_lacks space target refl refl is)
 
 abbrev after_word : List ℕ → List (List ℕ) → List (List ℕ)
 after_word word words = word ∷ words
-
-pub words_of_ping : (target : Target) → IsTarget target → spaced_words (codes "ping " ++ target_word target) ≡ codes "ping" ∷ target_word target ∷ []
-words_of_ping target is = ap (after_word (codes "ping")) (target_alone target is)
 
 pub words_of_exec : (target : Target) → IsTarget target → spaced_words (codes "exec " ++ target_word target) ≡ codes "exec" ∷ target_word target ∷ []
 words_of_exec target is = ap (after_word (codes "exec")) (target_alone target is)

@@ -100,7 +100,7 @@ moment_text now = codes "tick " ++ compact_text (natural now)
 -- Holds if a call can be made on the target: it is the database or a label that is a name.
 abbrev pub IsTarget : Target → Type 0
 IsTarget targets.Db = Unit {0}
-IsTarget (targets.Label label) = IsLabel label
+IsTarget (targets.Label tx) = IsLabel tx
 
 -- Holds if a line of a script can ask for the call.
 abbrev pub MayBeAsked : Op → Type 0
@@ -111,12 +111,9 @@ MayBeAsked (op.Next rows) = IsLabel rows
 MayBeAsked (op.Scan rows dests) = IsLabel rows × MayBeFilled dests
 MayBeAsked (op.RowsClose rows) = IsLabel rows
 MayBeAsked (op.Err rows) = IsLabel rows
-MayBeAsked (op.Begin label target level read_only) = IsLabel label × IsTarget target
+MayBeAsked (op.Begin label level read_only) = IsLabel label
 MayBeAsked (op.Commit tx) = IsLabel tx
 MayBeAsked (op.Rollback tx) = IsLabel tx
-MayBeAsked (op.Conn label) = IsLabel label
-MayBeAsked (op.ConnClose pin) = IsLabel pin
-MayBeAsked (op.Ping target) = IsTarget target
 MayBeAsked _ = Unit {0}
 
 -- Returns the text of a call's line. Its array is the one that a report shows, if it shows one.

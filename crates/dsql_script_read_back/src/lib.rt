@@ -8,7 +8,7 @@ mod worked_reports;
 ghost use Rattle.dsql_script_read_back.specs.ReadBack.{ReadsArgumentsBack, ReadsCallsBack, ReadsCapsBack, ReadsLimitsBack, ReadsMomentsBack};
 
 pub use worked_reports::{
-    worked_argument_lines, worked_pin_lines, worked_pool_lines, worked_row_lines, worked_rows_lines,
+    worked_argument_lines, worked_pool_lines, worked_row_lines, worked_rows_lines,
 };
 
 /// The array that a report shows for a call is read in a script as the call's text and arguments. Each argument
@@ -25,9 +25,9 @@ pub fn spelled_capabilities_are_read_back()
 
 /// The words that a report shows for a call, after the word for a client, are read as exactly this call. Its target,
 /// its labels, its destinations, and a begin's level and `ro` are read back with it. The array after them must be read
-/// as the call's. Earlier lines must have made each label that the call names, for rows, for a transaction or for a
-/// pin. They may not have made the label that it makes. The call is held if `start` precedes the words, otherwise it
-/// isn't. So a line of these words and the array that the report shows asks for this call.
+/// as the call's. Earlier lines must have made each label that the call names, for rows or for a transaction. They may
+/// not have made the label that it makes. The call is held if `start` precedes the words, otherwise it isn't. So a line
+/// of these words and the array that the report shows asks for this call.
 pub fn spelled_calls_are_read_back()
     ensures { ReadsCallsBack }
 {}

@@ -7,12 +7,9 @@ ghost use Rattle.dsql_history.specs.value.declared.value.Value.TheVariants as va
 ghost use Rattle.dsql_history.specs.scan.declared.dest.Dest.TheVariants as dest;
 ghost use Rattle.dsql_history.specs.scan.declared.cell.Cell.TheVariants as cell;
 ghost use Rattle.dsql_history.specs.driver.declared.call.Input.TheVariants as input;
-ghost use Rattle.dsql_history.specs.driver.declared.call.Level.TheVariants as level;
 ghost use Rattle.dsql_history.specs.driver.declared.call.DriverCall.TheVariants as call;
 ghost use Rattle.dsql_history.specs.driver.declared.answer.DriverAnswer.TheVariants as answer;
 ghost use Rattle.dsql_history.specs.rows.declared.end.RowsOver.TheVariants as over;
-ghost use Rattle.dsql_history.specs.pin.declared.end.PinEnd.TheVariants as pin_end;
-ghost use Rattle.dsql_history.specs.journal.declared.entry.Owner.TheVariants as owner;
 ghost use Rattle.dsql_history.specs.pool.declared.moves.CloseCause.TheVariants as cause;
 ghost use Rattle.dsql_history.specs.pool.declared.moves.Move.TheVariants as moved;
 ghost use Rattle.dsql_history.specs.works.declared.fault_word.FaultWord.TheVariants as fault;
@@ -102,24 +99,6 @@ pub fn worked_rows_lines()
         ≡ codes "[\"reply\",3,[\"err\",\"no_next\",\"sql: Scan called without calling Next\"]]\n" }
 {}
 
-/// Calls make and close a pin, and begin a transaction and ping on it. Replies say what ended a pin.
-pub fn worked_pin_lines()
-    ensures conn { entered_line (op.Conn (codes "p")) ≡ codes "[\"enter\",1,4,\"conn p\"]\n" }
-    ensures conn_close { entered_line (op.ConnClose (codes "p")) ≡ codes "[\"enter\",1,4,\"connclose p\"]\n" }
-    ensures begin { entered_line (op.Begin (codes "x") (target.Label (codes "p")) level.Snapshot true)
-        ≡ codes "[\"enter\",1,4,\"begin x p level=snapshot ro\"]\n" }
-    ensures ping { entered_line (op.Ping (target.Label (codes "p"))) ≡ codes "[\"enter\",1,4,\"ping p\"]\n" }
-    ensures lend { move_line (moved.Lend 1 2 (owner.Pin 7) 7) ≡ codes "[\"lend\",1,2,\"pin:7\"]\n" }
-    ensures closed { reply_line (reply.ConnDone pin_end.Close)
-        ≡ codes "[\"reply\",3,[\"err\",\"conn_done\",\"close\",\"sql: connection is already closed\"]]\n" }
-    ensures bad { reply_line (reply.ConnDone pin_end.BadConn)
-        ≡ codes "[\"reply\",3,[\"err\",\"conn_done\",\"bad\",\"sql: connection is already closed\"]]\n" }
-    ensures discarded { reply_line (reply.ConnDone pin_end.Discard)
-        ≡ codes "[\"reply\",3,[\"err\",\"conn_done\",\"discard\",\"sql: connection is already closed\"]]\n" }
-    ensures end_of_run { reply_line (reply.ConnDone pin_end.EndOfRun)
-        ≡ codes "[\"reply\",3,[\"err\",\"conn_done\",\"end\",\"sql: connection is already closed\"]]\n" }
-{}
-
 /// Calls wait, the clock is set, limits are set. Connections are opened for a call or for the waiting list, and
 /// closed for each cause. A connection is pinged. Replies report a full pool, a closed database and statistics.
 pub fn worked_pool_lines()
@@ -145,7 +124,7 @@ pub fn worked_pool_lines()
     ensures idle_time { close_line cause.IdleTime ≡ codes "[\"close\",2,\"idle_time\"]\n" }
     ensures db_closed { close_line cause.DbClosed ≡ codes "[\"close\",2,\"db_closed\"]\n" }
     ensures discarded { close_line cause.Discarded ≡ codes "[\"close\",2,\"discarded\"]\n" }
-    ensures ping { entered_line (op.Ping target.Db) ≡ codes "[\"enter\",1,4,\"ping db\"]\n" }
+    ensures ping { entered_line op.Ping ≡ codes "[\"enter\",1,4,\"ping db\"]\n" }
     ensures db_close { entered_line op.DbClose ≡ codes "[\"enter\",1,4,\"dbclose\"]\n" }
     ensures stats { entered_line op.Stats ≡ codes "[\"enter\",1,4,\"stats\"]\n" }
     ensures too_many { reply_line reply.TooMany

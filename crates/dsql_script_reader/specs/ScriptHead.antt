@@ -6,8 +6,8 @@ use Rattle.std.specs.Cmp.Lexicographic.{pointwise}
 use Rattle.dsql_history.specs.driver.declared.caps.Caps.{Caps}
 use Rattle.dsql_script_spelling.specs.CapsNames.{caps_names}
 use Rattle.dsql_history.specs.declared.event.Op.{Op}
-use Rattle.dsql_history.specs.declared.event.Op.TheVariants.{Query, Begin, Conn}
-use Rattle.dsql_script_reader.specs.declared.kind.Kind.TheVariants.{Rows, Transaction, Pin}
+use Rattle.dsql_history.specs.declared.event.Op.TheVariants.{Query, Begin}
+use Rattle.dsql_script_reader.specs.declared.kind.Kind.TheVariants.{Rows, Transaction}
 use Rattle.dsql_script_reader.specs.declared.script.Head.{Head}
 use Rattle.dsql_script_reader.specs.declared.script.Head.TheVariants.{First, AfterVersion, Begun}
 use Rattle.dsql_script_reader.specs.declared.script.ScriptLine.{ScriptLine}
@@ -70,12 +70,11 @@ head_after head Skip = head
 head_after head (Version version) = AfterVersion
 head_after head _ = Begun
 
--- Returns the labels that a call makes. A query makes one for its rows, a begin one for its transaction, and a conn
--- one for its pin.
+-- Returns the labels that a call makes: a query makes one for its rows, and a begin makes one for its
+-- transaction.
 abbrev pub labels_made : Op → List MadeLabel
 labels_made (Query label target text args) = (label, Rows) ∷ []
-labels_made (Begin label target level read_only) = (label, Transaction) ∷ []
-labels_made (Conn label) = (label, Pin) ∷ []
+labels_made (Begin label level read_only) = (label, Transaction) ∷ []
 labels_made _ = []
 
 abbrev pub labels_after : List MadeLabel → ScriptLine → List MadeLabel

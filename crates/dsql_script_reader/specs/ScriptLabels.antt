@@ -1,6 +1,6 @@
 -- Defines the labels that the lines of a script make, and why a line is refused because of a label that it
 -- makes or names.
-use Rattle.std.specs.Prelude.{ℕ, ◌||◌, Bool, true, false, List, if◌then◌else◌, Option, Some, None, is_some, String, string_bytes}
+use Rattle.std.specs.Prelude.{ℕ, Bool, true, false, List, if◌then◌else◌, Option, Some, None, is_some, String, string_bytes}
 use Rattle.std.specs.Map.{lookup}
 use Rattle.std.specs.Option.{option_or}
 use Rattle.std.specs.Str.{bytes_eq}
@@ -11,7 +11,7 @@ use Rattle.dsql_history.specs.declared.event.Target.TheVariants.{Db, Label}
 use Rattle.dsql_history.specs.declared.event.Op.{Op}
 use Rattle.dsql_history.specs.declared.event.Op.TheVariants as op
 use Rattle.dsql_script_reader.specs.declared.kind.Kind.{Kind}
-use Rattle.dsql_script_reader.specs.declared.kind.Kind.TheVariants.{Rows, Transaction, Pin}
+use Rattle.dsql_script_reader.specs.declared.kind.Kind.TheVariants.{Rows, Transaction}
 use Rattle.dsql_script_reader.specs.declared.script.ScriptLine.{ScriptLine}
 use Rattle.dsql_script_reader.specs.declared.script.ScriptLine.TheVariants.{Client}
 
@@ -29,7 +29,6 @@ kind_of labels label = lookup (bytes_eq label) labels
 abbrev pub is_same_kind : Kind → Kind → Bool
 is_same_kind Rows Rows = true
 is_same_kind Transaction Transaction = true
-is_same_kind Pin Pin = true
 is_same_kind _ _ = false
 
 -- Is true if the label was made and stands for something of this kind.
@@ -45,19 +44,10 @@ unless_made labels kind label = if stands_for kind (kind_of labels label) then N
 abbrev pub if_made : List MadeLabel → List ℕ → Option LineFault
 if_made labels label = if is_some (kind_of labels label) then Some LabelTaken else None
 
--- Is true if the label was made and stands for a transaction or a pin, on which a statement can be carried out.
-abbrev pub takes_statements : Option Kind → Bool
-takes_statements kind = stands_for Transaction kind || stands_for Pin kind
-
--- Returns the fault of a statement's target: a label must stand for a transaction or a pin.
+-- Returns the fault of a call's target: a label must stand for a transaction.
 abbrev pub target_fault : List MadeLabel → Target → Option LineFault
 target_fault labels Db = None
-target_fault labels (Label label) = if takes_statements (kind_of labels label) then None else Some UnknownLabel
-
--- Returns the fault of the target of a begin or a ping: a label must stand for a pin.
-abbrev pub conn_fault : List MadeLabel → Target → Option LineFault
-conn_fault labels Db = None
-conn_fault labels (Label pin) = unless_made labels Pin pin
+target_fault labels (Label tx) = unless_made labels Transaction tx
 
 -- Returns the fault of a call's labels, given the labels of earlier lines. The label that the call names is
 -- checked before the one that it makes.
@@ -69,12 +59,9 @@ label_fault labels (op.Next rows) = unless_made labels Rows rows
 label_fault labels (op.Scan rows dests) = unless_made labels Rows rows
 label_fault labels (op.RowsClose rows) = unless_made labels Rows rows
 label_fault labels (op.Err rows) = unless_made labels Rows rows
-label_fault labels (op.Begin label target level read_only) = option_or (conn_fault labels target) (if_made labels label)
+label_fault labels (op.Begin label level read_only) = if_made labels label
 label_fault labels (op.Commit tx) = unless_made labels Transaction tx
 label_fault labels (op.Rollback tx) = unless_made labels Transaction tx
-label_fault labels (op.Conn label) = if_made labels label
-label_fault labels (op.ConnClose pin) = unless_made labels Pin pin
-label_fault labels (op.Ping target) = conn_fault labels target
 label_fault labels _ = None
 
 abbrev pub line_fault : List MadeLabel → ScriptLine → Option LineFault

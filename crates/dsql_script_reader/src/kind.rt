@@ -5,8 +5,6 @@ pub enum Kind {
     Rows,
     /// A transaction.
     Transaction,
-    /// A pin, which is a connection that a client keeps.
-    Pin,
 }
 
 impl Kind {
@@ -20,7 +18,6 @@ impl Kind {
         match self {
             Kind::Rows => matches!(other, Kind::Rows),
             Kind::Transaction => matches!(other, Kind::Transaction),
-            Kind::Pin => matches!(other, Kind::Pin),
         }
     }
 }

@@ -2,7 +2,7 @@
 ghost use Rattle.std.specs.Prelude.{◌≡◌, [], ◌∷◌, ◌++◌, is_some, OnOk, OnErr};
 ghost use Rattle.dsql_script_forms.specs.Outcomes.{IsFault};
 ghost use Rattle.dsql_script_reader.specs.ScriptHead.{labels_made, labels_after};
-ghost use Rattle.dsql_script_reader.specs.ScriptLabels.{kind_of, stands_for, takes_statements, if_made, unless_made, target_fault, conn_fault, label_fault, line_fault};
+ghost use Rattle.dsql_script_reader.specs.ScriptLabels.{kind_of, stands_for, if_made, unless_made, target_fault, label_fault, line_fault};
 
 use crate::kind::Kind;
 use crate::script::ScriptLine;
@@ -63,15 +63,9 @@ impl Labels {
             }
             Op::Next { rows } | Op::Scan { rows, .. } | Op::RowsClose { rows } | Op::Err { rows } =>
                 self.find(Kind::Rows, rows.as_str()),
-            Op::Begin { label, target, .. } => {
-                self.find_conn(target)?;
-                self.make(alloc, Kind::Transaction, label.as_str())
-            }
+            Op::Begin { label, .. } => self.make(alloc, Kind::Transaction, label.as_str()),
             Op::Commit { tx } | Op::Rollback { tx } => self.find(Kind::Transaction, tx.as_str()),
-            Op::Conn { label } => self.make(alloc, Kind::Pin, label.as_str()),
-            Op::ConnClose { pin } => self.find(Kind::Pin, pin.as_str()),
-            Op::Ping { target } => self.find_conn(target),
-            Op::DbClose | Op::Stats => Ok(()),
+            Op::Ping | Op::DbClose | Op::Stats => Ok(()),
         }
     }
 
@@ -88,28 +82,13 @@ impl Labels {
         Ok(())
     }
 
-    /// Fails with `UnknownLabel` if a statement's target is a label that stands for no transaction and no pin.
+    /// Fails with `UnknownLabel` if the call's target is a label that stands for no transaction.
     fn find_target(&self, target: &Target) -> Result<(), LineFault>
         ensures { IsFault result (target_fault self.now target.now) }
     {
         match target {
             Target::Db => Ok(()),
-            Target::Label(label) => {
-                if !self.takes_statements(label.as_str()) {
-                    return Err(LineFault::UnknownLabel);
-                }
-                Ok(())
-            }
-        }
-    }
-
-    /// Fails with `UnknownLabel` if the target of a begin or a ping is a label that stands for no pin.
-    fn find_conn(&self, target: &Target) -> Result<(), LineFault>
-        ensures { IsFault result (conn_fault self.now target.now) }
-    {
-        match target {
-            Target::Db => Ok(()),
-            Target::Label(pin) => self.find(Kind::Pin, pin.as_str()),
+            Target::Label(tx) => self.find(Kind::Transaction, tx.as_str()),
         }
     }
 
@@ -121,12 +100,6 @@ impl Labels {
             return Err(LineFault::UnknownLabel);
         }
         Ok(())
-    }
-
-    fn takes_statements(&self, label: &str) -> bool
-        ensures { result ≡ takes_statements (kind_of self.now label.now) }
-    {
-        self.stands_for(Kind::Transaction, label) || self.stands_for(Kind::Pin, label)
     }
 
     fn stands_for(&self, kind: Kind, label: &str) -> bool

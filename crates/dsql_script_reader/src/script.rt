@@ -26,14 +26,12 @@ pub enum ScriptLine {
     /// | `cN query R T ["TEXT",ARGS]` | `QueryContext`, whose rows get the label R |
     /// | `cN next R`, `cN scan R DESTS` | `Rows.Next`, and `Rows.Scan` into these destinations |
     /// | `cN rowsclose R`, `cN err R` | `Rows.Close`, `Rows.Err` |
-    /// | `cN begin X D`, `cN begin X D level=L ro` | `BeginTx`, whose transaction gets the label X |
+    /// | `cN begin X db`, `cN begin X db level=L ro` | `DB.BeginTx`, whose transaction gets the label X |
     /// | `cN commit X`, `cN rollback X` | `Tx.Commit`, `Tx.Rollback` |
-    /// | `cN conn P`, `cN connclose P` | `DB.Conn`, which makes the pin P, and `Conn.Close` |
-    /// | `cN ping D` | `PingContext` |
+    /// | `cN ping db` | `DB.PingContext` |
     /// | `cN dbclose`, `cN stats` | `DB.Close`, `DB.Stats` |
     ///
-    /// T is `db`, for `DB`, or the label of a transaction or a pin, for its `Tx` or `Conn`. D is `db` or the label of a
-    /// pin.
+    /// T is `db`, for `DB`, or the label of a transaction, for its `Tx`.
     ///
     /// If the line stands after `start`, the call is held: it goes on by single steps alone, until the script
     /// ends.

@@ -17,10 +17,10 @@ abbrev pub if_any : Option Data → List Data
 if_any None = []
 if_any (Some d) = d ∷ []
 
--- Returns the word for a call's target: the database, or a transaction or a pin by its label.
+-- Returns the word for a call's target: the database, or a transaction by its label.
 abbrev pub target_word : Target → List ℕ
 target_word targets.Db = codes "db"
-target_word (targets.Label label) = label
+target_word (targets.Label tx) = tx
 
 -- Returns the words for the isolation level that a begin asks for. The default level isn't named.
 abbrev pub level_words : Level → List ℕ
@@ -32,9 +32,9 @@ abbrev pub read_only_words : Bool → List ℕ
 read_only_words true = codes " ro"
 read_only_words false = []
 
-abbrev pub begin_words : List ℕ → Target → Level → Bool → List ℕ
-begin_words label target level read_only =
-    codes "begin " ++ (label ++ (codes " " ++ (target_word target ++ (level_words level ++ read_only_words read_only))))
+abbrev pub begin_words : List ℕ → Level → Bool → List ℕ
+begin_words label level read_only =
+    codes "begin " ++ (label ++ (codes " db" ++ (level_words level ++ read_only_words read_only)))
 
 -- Returns the words of a call's line in the script, without the client.
 abbrev pub op_words : Op → List ℕ
@@ -45,12 +45,10 @@ op_words (op.Next rows) = codes "next " ++ rows
 op_words (op.Scan rows dests) = codes "scan " ++ (rows ++ (codes " " ++ dests_word dests))
 op_words (op.RowsClose rows) = codes "rowsclose " ++ rows
 op_words (op.Err rows) = codes "err " ++ rows
-op_words (op.Begin label target level read_only) = begin_words label target level read_only
+op_words (op.Begin label level read_only) = begin_words label level read_only
 op_words (op.Commit tx) = codes "commit " ++ tx
 op_words (op.Rollback tx) = codes "rollback " ++ tx
-op_words (op.Conn label) = codes "conn " ++ label
-op_words (op.ConnClose pin) = codes "connclose " ++ pin
-op_words (op.Ping target) = codes "ping " ++ target_word target
+op_words op.Ping = codes "ping db"
 op_words op.DbClose = codes "dbclose"
 op_words op.Stats = codes "stats"
 

@@ -14,8 +14,6 @@ use Rattle.dsql_script_spelling.specs.LineValues.{list_data, natural, worded, in
 use Rattle.dsql_history.specs.pool.Pooled.{most_open}
 use Rattle.dsql_history.specs.tx.declared.end.TxEnd.{TxEnd}
 use Rattle.dsql_history.specs.tx.declared.end.TxEnd.TheVariants as tx_ends
-use Rattle.dsql_history.specs.pin.declared.end.PinEnd.{PinEnd}
-use Rattle.dsql_history.specs.pin.declared.end.PinEnd.TheVariants as pin_ends
 use Rattle.dsql_history.specs.declared.reply.Reply.{Reply}
 use Rattle.dsql_history.specs.declared.reply.Reply.TheVariants as reply
 use Rattle.dsql_script_report.specs.LineCalls.{level_word}
@@ -76,13 +74,6 @@ tx_end_word tx_ends.Rollback = codes "rollback"
 tx_end_word (tx_ends.Cancel cause) = cancel_word cause
 tx_end_word tx_ends.EndOfRun = codes "end"
 
--- Returns the word for what ended a pin.
-abbrev pub pin_end_word : PinEnd → List ℕ
-pin_end_word pin_ends.Close = codes "close"
-pin_end_word pin_ends.BadConn = codes "bad"
-pin_end_word pin_ends.Discard = codes "discard"
-pin_end_word pin_ends.EndOfRun = codes "end"
-
 -- Returns the array of a reply. An error has its code, what it shows, and its text.
 abbrev pub reply_data : Reply → Data
 reply_data reply.Ok = worded (codes "ok") []
@@ -111,9 +102,6 @@ reply_data (reply.Absent label) =
 reply_data (reply.TxDone by) =
     worded (codes "err") (string (codes "tx_done") ∷ string (tx_end_word by) ∷ string
     (codes "sql: transaction has already been committed or rolled back") ∷ [])
-reply_data (reply.ConnDone by) =
-    worded (codes "err") (string (codes "conn_done") ∷ string (pin_end_word by) ∷ string
-    (codes "sql: connection is already closed") ∷ [])
 reply_data (reply.RowsClosed over) =
     worded (codes "err") (string (codes "rows_closed") ∷ string (over_word over) ∷ string
     (codes "sql: Rows are closed") ∷ [])

@@ -24,15 +24,12 @@ fn write_words(alloc: Global, json: &mut Writer, op: &Op) -> Result<(), AllocErr
         Op::Err { rows } => labelled(alloc, "err ", rows.as_str())?,
         Op::Begin {
             label,
-            target,
             level,
             read_only,
-        } => begin_words(alloc, label.as_str(), target, *level, *read_only)?,
+        } => begin_words(alloc, label.as_str(), *level, *read_only)?,
         Op::Commit { tx } => labelled(alloc, "commit ", tx.as_str())?,
         Op::Rollback { tx } => labelled(alloc, "rollback ", tx.as_str())?,
-        Op::Conn { label } => labelled(alloc, "conn ", label.as_str())?,
-        Op::ConnClose { pin } => labelled(alloc, "connclose ", pin.as_str())?,
-        Op::Ping { target } => labelled(alloc, "ping ", target_word(target))?,
+        Op::Ping => return json.string("ping db"),
         Op::DbClose => return json.string("dbclose"),
         Op::Stats => return json.string("stats"),
     };
@@ -54,9 +51,7 @@ fn write_array(alloc: Global, json: &mut Writer, op: &Op) -> Result<(), AllocErr
         | Op::Begin { .. }
         | Op::Commit { .. }
         | Op::Rollback { .. }
-        | Op::Conn { .. }
-        | Op::ConnClose { .. }
-        | Op::Ping { .. }
+        | Op::Ping
         | Op::DbClose
         | Op::Stats => Ok(()),
     }

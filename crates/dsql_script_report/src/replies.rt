@@ -3,12 +3,12 @@ ghost use Rattle.std.specs.Prelude.{◌≡◌, [], ◌∷◌, codes, map, string
 ghost use Rattle.json.specs.Token.{begin_array, end_array, string as text_token};
 ghost use Rattle.serde_json.specs.Data.{string};
 ghost use Rattle.dsql_script_spelling.specs.LineValues.{list_data, worded, natural, texts_data, cells_data};
-ghost use Rattle.dsql_script_report.specs.LineReplies.{num_args_text, dest_count_text, fault_word, scan_text, cancel_word, over_word, db_end_word, numbers_of, tx_end_word, pin_end_word, reply_data};
+ghost use Rattle.dsql_script_report.specs.LineReplies.{num_args_text, dest_count_text, fault_word, scan_text, cancel_word, over_word, db_end_word, numbers_of, tx_end_word, reply_data};
 ghost use Rattle.dsql_script_spelling.specs.Spelling.{Adds, Spells};
 
 use crate::levels::level_word;
 use dsql_history::{
-    Cause, Cell, DbEnd, FaultWord, Level, MOST_OPEN, PinEnd, Reply, RowsOver, Stats, TxEnd, Txt,
+    Cause, Cell, DbEnd, FaultWord, Level, MOST_OPEN, Reply, RowsOver, Stats, TxEnd, Txt,
 };
 use dsql_script_spelling::{
     begin, write_cells, write_integer, write_natural, write_texts, write_word,
@@ -174,7 +174,7 @@ fn write_bad_name(json: &mut Writer, name: &str) -> Result<(), AllocError>
     write_error_of(json, "bad_name", name, text)
 }
 
-/// Writes the error for a label that no rows, no transaction and no pin got.
+/// Writes the error for a label that no rows and no transaction got.
 fn write_absent(json: &mut Writer, label: &str) -> Result<(), AllocError>
     ensures { Spells result json.old json.new (reply_data (Reply.Absent label.now)) }
 {
@@ -231,26 +231,6 @@ fn write_tx_done(json: &mut Writer, by: TxEnd) -> Result<(), AllocError>
 {
     let text = "sql: transaction has already been committed or rolled back";
     write_error_of(json, "tx_done", tx_end_word(by), text)
-}
-
-/// Returns the word for what ended a pin.
-fn pin_end_word(end: PinEnd) -> &'static str
-    ensures { result.now ≡ pin_end_word end }
-{
-    match end {
-        PinEnd::Close => "close",
-        PinEnd::BadConn => "bad",
-        PinEnd::Discard => "discard",
-        PinEnd::EndOfRun => "end",
-    }
-}
-
-/// Writes the error for a pin that has ended.
-fn write_conn_done(json: &mut Writer, by: PinEnd) -> Result<(), AllocError>
-    ensures { Spells result json.old json.new (reply_data (Reply.ConnDone by)) }
-{
-    let text = "sql: connection is already closed";
-    write_error_of(json, "conn_done", pin_end_word(by), text)
 }
 
 /// Writes the error for an isolation level if the driver has only the default one.
@@ -425,7 +405,6 @@ pub fn write_reply(alloc: Global, json: &mut Writer, reply: &Reply) -> Result<()
         Reply::BadName(name) => write_bad_name(json, name.as_str()),
         Reply::Absent(label) => write_absent(json, label.as_str()),
         Reply::TxDone(by) => write_tx_done(json, *by),
-        Reply::ConnDone(by) => write_conn_done(json, *by),
         Reply::RowsClosed(over) => write_closed(json, *over),
         Reply::Isolation(level) => write_isolation(json, *level),
         Reply::ReadOnly => write_read_only(json),

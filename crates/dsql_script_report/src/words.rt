@@ -28,7 +28,7 @@ pub(crate) fn target_word(target: &Target) -> &str
 {
     match target {
         Target::Db => "db",
-        Target::Label(label) => label.as_str(),
+        Target::Label(tx) => tx.as_str(),
     }
 }
 
@@ -81,16 +81,13 @@ fn push_level(words: &mut String, level: Level) -> Result<(), AllocError>
 pub(crate) fn begin_words(
     alloc: Global,
     label: &str,
-    target: &Target,
     level: Level,
     read_only: bool,
 ) -> Result<String, AllocError>
-    ensures { IfOk result (λ words. string_bytes words
-        ≡ begin_words label.now target.now level read_only) }
+    ensures { IfOk result (λ words. string_bytes words ≡ begin_words label.now level read_only) }
 {
     let mut words = labelled(alloc, "begin ", label)?;
-    words.push_str(" ")?;
-    words.push_str(target_word(target))?;
+    words.push_str(" db")?;
     push_level(&mut words, level)?;
     if read_only {
         words.push_str(" ro")?;

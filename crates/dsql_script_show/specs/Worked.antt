@@ -10,7 +10,6 @@ use Rattle.dsql_history.specs.tx.declared.end.TxEnd.TheVariants as ends
 use Rattle.dsql_history.specs.declared.event.Event.{Event}
 use Rattle.dsql_history.specs.declared.event.Event.TheVariants.{Entered, Heard, Replied, Ended}
 use Rattle.dsql_history.specs.declared.event.Op.TheVariants as ops
-use Rattle.dsql_history.specs.declared.event.Target.TheVariants as targets
 use Rattle.dsql_history.specs.declared.reply.Reply.TheVariants as reply
 use Rattle.dsql_script_show.specs.Summary.{line_of, summary_of}
 
@@ -26,9 +25,9 @@ abbrev pub sample : List Event
 sample =
     Ended
     ∷ Replied 5 reply.ReadOnly
-    ∷ Entered 1 5 (ops.Begin (codes "z") targets.Db levels.Default true)
+    ∷ Entered 1 5 (ops.Begin (codes "z") levels.Default true)
     ∷ Replied 4 (reply.Isolation levels.Snapshot)
-    ∷ Entered 1 4 (ops.Begin (codes "y") targets.Db levels.Snapshot false)
+    ∷ Entered 1 4 (ops.Begin (codes "y") levels.Snapshot false)
     ∷ Replied 3 (reply.TxDone ends.Rollback)
     ∷ Entered 1 3 (ops.Commit (codes "x"))
     ∷ Replied 2 reply.Ok
@@ -37,7 +36,7 @@ sample =
     ∷ Replied 1 reply.Ok
     ∷ done_by (Tx 1) 1 1 (calls.Begin levels.Default false)
     ∷ done_by House 0 0 calls.Connect
-    ∷ Entered 1 1 (ops.Begin (codes "x") targets.Db levels.Default false)
+    ∷ Entered 1 1 (ops.Begin (codes "x") levels.Default false)
     ∷ []
 
 pub record WorkedSummaries : Type 0 where

@@ -6,17 +6,17 @@ use Rattle.std.proofs.lemmas.Bool.{cases_Bool}
 use Rattle.std.proofs.lemmas.List.{append-nil}
 use Rattle.std.proofs.lemmas.Slice.Eq.{bytes_eq-Decides}
 use Rattle.dsql_history.specs.declared.event.Op.{Op}
-use Rattle.dsql_history.specs.declared.event.Op.TheVariants.{Query, Begin, Conn}
+use Rattle.dsql_history.specs.declared.event.Op.TheVariants.{Query, Begin}
 use Rattle.dsql_follows.specs.Labels.{times_by}
 use Rattle.dsql_script_forms.specs.declared.fault.LineFault.{LineFault}
 use Rattle.dsql_script_forms.specs.declared.fault.LineFault.TheVariants.{LabelTaken, TooMany}
 use Rattle.dsql_script_forms.specs.declared.fault.What.TheVariants.{Lines}
 use Rattle.dsql_script_reader.specs.declared.kind.Kind.{Kind}
-use Rattle.dsql_script_reader.specs.declared.kind.Kind.TheVariants.{Rows, Transaction, Pin}
+use Rattle.dsql_script_reader.specs.declared.kind.Kind.TheVariants.{Rows, Transaction}
 use Rattle.dsql_script_reader.specs.declared.script.ScriptLine.{ScriptLine}
 use Rattle.dsql_script_reader.specs.declared.script.ScriptLine.TheVariants.{Client}
 use Rattle.dsql_script_reader.specs.ScriptHead.{Progress, after, labels_made}
-use Rattle.dsql_script_reader.specs.ScriptLabels.{MadeLabel, kind_of, label_fault, line_fault, target_fault, conn_fault}
+use Rattle.dsql_script_reader.specs.ScriptLabels.{MadeLabel, kind_of, label_fault, line_fault, target_fault}
 use Rattle.dsql_script_reader.specs.ScriptLines.{Reading, among_labels, line_of, most_lines, read_of, unless_fault}
 use Rattle.dsql_script_source.specs.Naming.{LearnsLabel, known, times_next}
 
@@ -68,10 +68,7 @@ call_learns : (labels : List MadeLabel) (op : Op) → label_fault labels op ≡ 
 call_learns labels (Query own target text args) none label =
     learned labels own label Rows
     (not_made (is_some (kind_of labels own)) (second_none (target_fault labels target) (if is_some (kind_of labels own) then Some LabelTaken else None) none))
-call_learns labels (Begin own target level read_only) none label =
-    learned labels own label Transaction
-    (not_made (is_some (kind_of labels own)) (second_none (conn_fault labels target) (if is_some (kind_of labels own) then Some LabelTaken else None) none))
-call_learns labels (Conn own) none label = learned labels own label Pin (not_made (is_some (kind_of labels own)) none)
+call_learns labels (Begin own level read_only) none label = learned labels own label Transaction (not_made (is_some (kind_of labels own)) none)
 call_learns labels op none label =
     let same : is_some (kind_of (labels ++ []) label) ≡ is_some (kind_of labels label) = ap (λ ls. is_some (kind_of ls label)) (append-nil labels) in
     rw same (omega arith)

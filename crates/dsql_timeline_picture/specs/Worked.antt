@@ -6,7 +6,6 @@ use Rattle.dsql_history.specs.journal.declared.entry.Owner.TheVariants.{House, C
 use Rattle.dsql_history.specs.pool.declared.moves.Move.TheVariants.{OpenStart, Lend, Back}
 use Rattle.dsql_history.specs.declared.reply.Reply.TheVariants.{Ok}
 use Rattle.dsql_history.specs.declared.event.Op.TheVariants.{Ping}
-use Rattle.dsql_history.specs.declared.event.Target.TheVariants.{Db}
 use Rattle.dsql_history.specs.declared.event.Event.{Event}
 use Rattle.dsql_history.specs.declared.event.Event.TheVariants.{Entered, Heard, Pool, Waits, Ticked, Replied, Ended}
 use Rattle.dsql_timeline_page.specs.declared.bar.Bar.{Bar}
@@ -17,11 +16,11 @@ use Rattle.dsql_timeline_picture.specs.Pictures.{Drawn, drawn_of}
 -- A client's call is lent a connection. Another client's call waits for it, and has no reply.
 abbrev pub worked : List Event
 worked =
-    Entered 1 1 (Ping Db)
+    Entered 1 1 Ping
     ∷ Pool (OpenStart 1 1)
     ∷ Heard (record { conn = 1; tenure = 1; owner = House; call_no = 0; tx = 0; call = Connect; answer = Done })
     ∷ Pool (Lend 1 2 (Call 1) 1)
-    ∷ Entered 2 2 (Ping Db)
+    ∷ Entered 2 2 Ping
     ∷ Waits 2
     ∷ Pool (Back 1)
     ∷ Pool (Lend 1 3 (Call 2) 2)

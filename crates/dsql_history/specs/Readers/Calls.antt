@@ -9,7 +9,6 @@ use Rattle.dsql_history_work.specs.rows.declared.rows.Rows.{Rows}
 use Rattle.dsql_history_work.specs.course.Made.{or_else}
 use Rattle.dsql_pool.specs.Pooled.{stats}
 use Rattle.dsql_tx.specs.declared.end.TxEnd.{TxEnd}
-use Rattle.dsql_pin.specs.declared.end.PinEnd.{PinEnd}
 use Rattle.dsql_history_work.specs.Calls.{accepted}
 use Rattle.dsql_history.specs.declared.record.Try.{Try}
 use Rattle.dsql_history.specs.declared.record.Try.TheVariants.{Served, Lost, Refused}
@@ -24,18 +23,17 @@ use Rattle.dsql_history.specs.declared.event.Target.TheVariants as targets
 use Rattle.dsql_history.specs.declared.record.CallRecord.{CallRecord}
 use Rattle.dsql_history.specs.declared.reply.Reply.{Reply}
 use Rattle.dsql_history.specs.declared.reply.Reply.TheVariants as reply
-use Rattle.dsql_history.specs.declared.reply.Reply.TheVariants.{Truth, Absent, TxDone, ConnDone, DbClosed}
+use Rattle.dsql_history.specs.declared.reply.Reply.TheVariants.{Truth, Absent, TxDone, DbClosed}
 use Rattle.dsql_history.specs.declared.work.Scope.{Scope}
-use Rattle.dsql_history.specs.declared.work.Scope.TheVariants.{Db, Held, Pinned, Within}
+use Rattle.dsql_history.specs.declared.work.Scope.TheVariants.{Db, Held}
 use Rattle.dsql_history.specs.declared.work.Work.{Work}
-use Rattle.dsql_history.specs.declared.work.Work.TheVariants.{Fetch, Close, End, EndWithin, Unpin, Look}
+use Rattle.dsql_history.specs.declared.work.Work.TheVariants.{Fetch, Close, End, Look}
 use Rattle.dsql_history.specs.declared.work.Work.TheVariants as works_of
 use Rattle.dsql_history.specs.Readers.Course.{caps, db_end}
 use Rattle.dsql_history.specs.Readers.Unfinished.{unfinished, is_unfinished}
-use Rattle.dsql_history.specs.Readers.Works.{works, work, rows_maker, tx_maker, pin_maker, scope, borrower}
+use Rattle.dsql_history.specs.Readers.Works.{works, work, rows_maker, tx_maker, scope, borrower}
 use Rattle.dsql_history.specs.Readers.Journals.{journal}
 use Rattle.dsql_history.specs.Readers.Transactions.{is_begun, tx_end}
-use Rattle.dsql_history.specs.Readers.Pins.{is_pinned, pin_end}
 use Rattle.dsql_history.specs.Readers.HandedOut.{rows_by, are_over}
 use Rattle.dsql_history.specs.Readers.Lines.{has_sent}
 use Rattle.dsql_history.specs.Readers.Decisions.{statement, arguments, label_of, told_of, rows_reply, options_refused, bad_reply, reply_to, Trying, decision}
@@ -61,16 +59,6 @@ tx_refused before tx =
     cond (is_there before (tx_maker (works before) tx)) (done_with (tx_end before (tx_maker (works before) tx)))
     (Some (Absent tx))
 
--- Returns the reply that the pin has this end, if it has ended.
-abbrev pub unpinned_with : Option PinEnd → Option Reply
-unpinned_with end = option_map ConnDone end
-
--- Returns the reply that refuses a call on the pin with this label: that there is none, or that it has ended.
-abbrev pub pin_refused : List Event → List ℕ → Option Reply
-pin_refused before label =
-    cond (is_pinned before (pin_maker (works before) label))
-    (unpinned_with (pin_end before (pin_maker (works before) label))) (Some (Absent label))
-
 -- Returns the reply that the database is closed, if it is. A closed database lends no connection.
 abbrev pub db_refused : List Event → Option Reply
 db_refused before = option_map DbClosed (db_end before)
@@ -78,19 +66,7 @@ db_refused before = option_map DbClosed (db_end before)
 -- Returns the reply that refuses a statement on this target, if it can't be carried out there.
 abbrev pub target_refused : List Event → Target → Option Reply
 target_refused before targets.Db = db_refused before
-target_refused before (targets.Label label) =
-    cond (pin_maker (works before) label == 0) (tx_refused before label) (pin_refused before label)
-
--- Returns the reply that refuses a begin or a ping on this target, if it can't be carried out there.
-abbrev pub conn_refused : List Event → Target → Option Reply
-conn_refused before targets.Db = db_refused before
-conn_refused before (targets.Label pin) = pin_refused before pin
-
--- Returns the reply that a ping on this target gets as it enters, if any, although nothing refuses it. On a pin it gets
--- its reply at once if the driver can't ping.
-abbrev pub told_unasked : Caps → Target → Option Reply
-told_unasked can targets.Db = None
-told_unasked can (targets.Label pin) = cond can.pinger None (Some reply.Ok)
+target_refused before (targets.Label tx) = tx_refused before tx
 
 -- Returns the reply that refuses a statement as it enters, if any. Its target refuses it, or its first argument
 -- with a refused name or value does.
@@ -105,13 +81,11 @@ told_at_entry before (ops.Exec target text args) = statement_refused before targ
 told_at_entry before (ops.Query label target text args) =
     statement_refused before target (ops.Query label target text args)
 told_at_entry before (ops.One target dests text args) = statement_refused before target (ops.One target dests text args)
-told_at_entry before (ops.Begin label target level read_only) =
-    or_else (conn_refused before target) (options_refused (caps before).begin_options level read_only)
+told_at_entry before (ops.Begin label level read_only) =
+    or_else (db_refused before) (options_refused (caps before).begin_options level read_only)
 told_at_entry before (ops.Commit tx) = tx_refused before tx
 told_at_entry before (ops.Rollback tx) = tx_refused before tx
-told_at_entry before (ops.Conn label) = db_refused before
-told_at_entry before (ops.ConnClose pin) = pin_refused before pin
-told_at_entry before (ops.Ping target) = or_else (conn_refused before target) (told_unasked (caps before) target)
+told_at_entry before ops.Ping = db_refused before
 told_at_entry before ops.DbClose = Some reply.Ok
 told_at_entry before ops.Stats = Some (reply.Stats (stats (pool before)))
 told_at_entry before op = rows_reply (rows_for before op) op
@@ -199,33 +173,18 @@ has_begun_to_send before n = has_sent n (journal before (site before n))
 abbrev pub told_by_tx_end : List Event → ℕ → ℕ → Option Reply
 told_by_tx_end before n k = cond (has_begun_to_send before n) None (done_with (tx_end before k))
 
--- Returns the reply that pin p's end gives call n on it, if the pin ends before the call has sent anything.
-abbrev pub told_by_pin_end : List Event → ℕ → ℕ → Option Reply
-told_by_pin_end before n p = cond (has_begun_to_send before n) None (unpinned_with (pin_end before p))
-
 -- Returns the reply that others have settled for call n, if any. On the database its tries settle it, in a
--- transaction the transaction's end, on a pin the pin's end.
+-- transaction the transaction's end.
 abbrev pub told_by_scope : List Event → ℕ → Work → Scope → Option Reply
 told_by_scope before n work Db = told_by_tries before work (tries before n)
 told_by_scope before n work (Held k) = told_by_tx_end before n k
-told_by_scope before n work (Pinned pin) = told_by_pin_end before n pin
-told_by_scope before n work (Within pin k) = told_by_tx_end before n k
-
--- Returns the reply that its tries give a call that pins a connection. It has no more to do after it was served.
-abbrev pub told_as_pinned : List Event → Work → List Try → Option Reply
-told_as_pinned before work (Served ∷ earlier) = Some reply.Ok
-told_as_pinned before work tries = told_by_tries before work tries
 
 -- Returns the reply that others have settled for call n, if any. For a fetch of rows that they ended, it is
--- that there is no row. For a close, it is that nothing is left to close. For a close of a pin it is so after the pin's
--- connection was given back.
+-- that there is no row. For a close, it is that nothing is left to close.
 abbrev pub told_of_work : List Event → ℕ → Work → Option Reply
 told_of_work before n (Fetch k) = cond (are_over before k) (Some (Truth false)) None
 told_of_work before n (Close k) = Some reply.Ok
 told_of_work before n (End k) = None
-told_of_work before n (EndWithin pin k) = None
-told_of_work before n (works_of.Pin label) = told_as_pinned before (works_of.Pin label) (tries before n)
-told_of_work before n (Unpin pin) = cond (home before pin == 0) (Some reply.Ok) None
 told_of_work before n Look = None
 told_of_work before n it = told_by_scope before n it (scope it)
 

@@ -15,7 +15,7 @@ use Rattle.dsql_history.specs.declared.event.Event.TheVariants.{Entered, Heard, 
 use Rattle.dsql_history.specs.declared.event.Op.{Op}
 use Rattle.dsql_history.specs.declared.event.Op.TheVariants.{RowsClose, Commit, Rollback}
 use Rattle.dsql_history.specs.declared.work.Scope.{Scope}
-use Rattle.dsql_history.specs.declared.work.Scope.TheVariants.{Held, Within}
+use Rattle.dsql_history.specs.declared.work.Scope.TheVariants.{Db, Held}
 use Rattle.dsql_history.specs.declared.work.Work.{Work}
 use Rattle.dsql_history.specs.declared.work.Task.TheVariants.{HandOut}
 use Rattle.dsql_history.specs.declared.work.Work.TheVariants.{Statement, Fetch}
@@ -42,11 +42,10 @@ over (Some rows) = not (is_live rows)
 abbrev pub born : Bool → Rows → Rows
 born too_late rows = cond too_late (ended_by ends.TxEnded rows) rows
 
--- Is true if rows of this scope belong to a transaction that has ended. Rows on a pin go on after the pin has ended.
+-- Is true if rows of this scope belong to a transaction that has ended.
 abbrev pub is_late : List Event → Scope → Bool
+is_late before Db = false
 is_late before (Held k) = is_over before k
-is_late before (Within pin k) = is_over before k
-is_late before _ = false
 
 -- Returns the rows after an answer to call n. A query's cursor makes its rows, and a fetch changes the rows
 -- that it fetches from.
@@ -79,9 +78,8 @@ rows_entered before op rows = rows
 -- Returns what ends rows of this scope at the end of the run, which ends the transactions with their rows, and
 -- all other rows.
 abbrev pub last_end : Scope → RowsEnd
+last_end Db = ends.EndOfRun
 last_end (Held k) = ends.TxEnded
-last_end (Within pin k) = ends.TxEnded
-last_end _ = ends.EndOfRun
 
 abbrev pub rows_at_end : List Event → Made → Made
 rows_at_end before rows = map (λ it. (it.0, ended_by (last_end (scope (work before it.0))) it.1)) rows

@@ -1,4 +1,4 @@
--- Defines the driver calls that are still to be made to end a transaction, also one on a pin.
+-- Defines the driver calls that are still to be made to end a transaction.
 use Rattle.std.specs.Prelude.{ℕ, ◌==◌, ◌+◌, Bool, ◌||◌, cond, List, [], ◌∷◌, Option, Some, None}
 use Rattle.std.specs.List.{list_any}
 use Rattle.dsql_history_work.specs.driver.declared.call.DriverCall.{DriverCall}
@@ -7,7 +7,7 @@ use Rattle.dsql_history_work.specs.driver.Kinds.{is_valid, is_ending}
 use Rattle.dsql_history_work.specs.course.Made.{or_else}
 use Rattle.dsql_history_work.specs.journal.declared.entry.Entry.{Entry}
 use Rattle.dsql_history_work.specs.journal.Kinds.{number_of}
-use Rattle.dsql_history_work.specs.journal.Readers.{went_bad, of_transaction}
+use Rattle.dsql_history_work.specs.journal.Readers.{went_bad}
 use Rattle.dsql_pool.specs.declared.conn.Place.{Place}
 use Rattle.dsql_pool.specs.declared.conn.Place.TheVariants.{Lent}
 use Rattle.dsql_tx.specs.declared.end.TxEnd.{TxEnd}
@@ -57,23 +57,3 @@ ending_with before k (Some end) = ending_at before k (home before k) end (place 
 
 abbrev pub ending : List Event → ℕ → Option DriverCall
 ending before k = ending_with before k (tx_end before k)
-
--- Returns the Commit or Rollback that ends transaction k, unless it stands among these entries.
-abbrev pub closing_call : ℕ → TxEnd → List Entry → Option DriverCall
-closing_call k end heard =
-    cond (list_any (λ e. is_ending e.call) (of_transaction k heard)) None (Some (ended_by_call end))
-
-abbrev pub ending_on : List Event → ℕ → ℕ → ℕ → TxEnd → Option Place → Option DriverCall
-ending_on before p k c end (Some (Lent tenure owner)) =
-    cond (number_of owner == p)
-    (or_else (first_closing before k 0 (works before)) (closing_call k end (heard_in before c tenure))) None
-ending_on before p k c end _ = None
-
-abbrev pub ending_within_by : List Event → ℕ → ℕ → Option TxEnd → Option DriverCall
-ending_within_by before p k None = None
-ending_within_by before p k (Some end) = ending_on before p k (home before p) end (place before (home before p))
-
--- Returns the driver call that is next to end transaction k, which was begun on pin p. Its rows are closed in the order
--- of their queries, and then one Commit or Rollback is sent. The pin keeps the connection, so it isn't tested.
-abbrev pub ending_within : List Event → ℕ → ℕ → Option DriverCall
-ending_within before p k = ending_within_by before p k (tx_end before k)

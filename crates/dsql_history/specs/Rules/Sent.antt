@@ -18,7 +18,7 @@ use Rattle.dsql_history_work.specs.Line.{test_of, Asked, body_after, line_after}
 use Rattle.dsql_history.specs.Rules.Wishes.{wish_as}
 use Rattle.dsql_history.specs.declared.event.Event.{Event}
 use Rattle.dsql_history.specs.declared.work.Scope.{Scope}
-use Rattle.dsql_history.specs.declared.work.Scope.TheVariants.{Db}
+use Rattle.dsql_history.specs.declared.work.Scope.TheVariants.{Db, Held}
 use Rattle.dsql_history.specs.declared.work.Work.{Work}
 use Rattle.dsql_history.specs.declared.work.Work.TheVariants as works_of
 use Rattle.dsql_history.specs.Readers.Course.{caps}
@@ -39,12 +39,12 @@ asked_by before n =
     record { text = (call_record before n).text; params = (call_record before n).params; aim = aim_of (work before n) }
 
 -- Returns the same abilities without the test. A connection is tested as it is given back, so a call in a
--- transaction or on a pin doesn't test it.
+-- transaction doesn't test it.
 abbrev pub untested : Caps → Caps
 untested can = record can { validator = false }
 
--- Returns the driver call that a call in a transaction or on a pin sends next after its line. The entries of other
--- calls have no part in that.
+-- Returns the driver call that a call in a transaction sends next after its line. The entries of other calls
+-- have no part in that.
 abbrev pub inner_after : Caps → Bool → Asked → Wish → List Entry → Option DriverCall
 inner_after can bad asked wish line = body_after (untested can) bad asked wish (exchanges line)
 
@@ -60,11 +60,6 @@ unless_last e next = cond (is_bad e.answer || is_valid e.call) None next
 abbrev pub begin_line : Caps → Bool → DriverCall → List Entry → Option DriverCall
 begin_line can reset_due begin [] = cond reset_due (Some Reset) (Some begin)
 begin_line can reset_due begin (e ∷ earlier) = unless_last e (begin_after can begin e)
-
--- Returns the driver call that a call which pins a connection sends next: a Reset if it is due, and nothing more.
-abbrev pub pin_line : Bool → List Entry → Option DriverCall
-pin_line reset_due [] = cond reset_due (Some Reset) None
-pin_line reset_due (e ∷ earlier) = None
 
 -- What the line of a call on its connection depends on.
 pub record Sender : Type 0 where
@@ -97,7 +92,7 @@ sender before n c wish =
 abbrev pub db_line : Sender → List Entry → Option DriverCall
 db_line it line = line_after it.can it.reset_due it.asked it.wish line
 
--- Returns the driver call that a call in a transaction or on a pin sends next after its line.
+-- Returns the driver call that a call in a transaction sends next after its line.
 abbrev pub tx_line : Sender → List Entry → Option DriverCall
 tx_line it line = inner_after it.can it.bad it.asked it.wish line
 
@@ -105,11 +100,8 @@ tx_line it line = inner_after it.can it.bad it.asked it.wish line
 abbrev pub line_for : Work → Scope → Sender → List Entry → Option DriverCall
 line_for (works_of.Begin label level read_only) scope it line =
     begin_line it.can it.reset_due (Begin level read_only) line
-line_for (works_of.BeginOn pin label level read_only) scope it line =
-    begin_line (untested it.can) false (Begin level read_only) line
-line_for (works_of.Pin label) scope it line = pin_line it.reset_due line
 line_for work Db it line = db_line it line
-line_for work scope it line = tx_line it line
+line_for work (Held k) it line = tx_line it line
 
 abbrev pub line_with : Sender → List Entry → Option DriverCall
 line_with it line = line_for it.work (scope it.work) it line

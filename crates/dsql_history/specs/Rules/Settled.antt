@@ -5,14 +5,13 @@ use Rattle.std.specs.List.{list_all}
 use Rattle.dsql_history_work.specs.journal.Readers.{is_empty}
 use Rattle.dsql_pool.specs.declared.conn.Place.{Place}
 use Rattle.dsql_pool.specs.declared.conn.Place.TheVariants.{Lent}
-use Rattle.dsql_history_work.specs.journal.declared.entry.Owner.{Owner}
 use Rattle.dsql_history_work.specs.journal.Kinds.{number_of}
 use Rattle.dsql_history.specs.declared.event.Event.{Event}
 use Rattle.dsql_history.specs.Readers.Unfinished.{unfinished}
 use Rattle.dsql_history.specs.Readers.Pool.{pool}
 use Rattle.dsql_history.specs.Readers.Owed.{owed}
 use Rattle.dsql_history.specs.Readers.Calls.{rests}
-use Rattle.dsql_history.specs.Rules.Line.{is_used, uses_pin, is_perhaps_used}
+use Rattle.dsql_history.specs.Rules.Line.{is_used}
 use Rattle.dsql_history.specs.Rules.Stands.{stand}
 
 -- Is true if the pool owes no move.
@@ -23,12 +22,8 @@ owes_nothing before = is_empty (owed before)
 abbrev pub is_kept : List Event → ℕ → Bool
 is_kept before n = is_used before n || rests before n
 
--- Is true if the owner is a pin whose connection is in use, or perhaps is.
-abbrev pub keeps_pin : List Event → Owner → Bool
-keeps_pin before owner = uses_pin before owner || is_perhaps_used before owner
-
 abbrev pub is_in_use : List Event → Place → Bool
-is_in_use before (Lent tenure owner) = is_kept before (number_of owner) || keeps_pin before owner
+is_in_use before (Lent tenure owner) = is_kept before (number_of owner)
 is_in_use before _ = true
 
 abbrev pub uses_what_is_lent : List Event → Bool

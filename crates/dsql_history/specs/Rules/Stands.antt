@@ -1,7 +1,7 @@
 -- Defines where each unfinished call stands between two steps.
 use Rattle.std.specs.Prelude.{ℕ, Bool, true, false, Option, Some, None, ◌==◌, not, ◌&&◌, ◌||◌, cond, List, [], ◌∷◌, is_none, is_some}
 use Rattle.dsql_history.specs.declared.record.Stand.{Stand}
-use Rattle.dsql_history.specs.declared.record.Stand.TheVariants.{Waits, Opens, Sends, Busy, Replies, Asks}
+use Rattle.dsql_history.specs.declared.record.Stand.TheVariants.{Waits, Opens, Sends, Replies, Asks}
 use Rattle.dsql_history_work.specs.course.Made.{or_else}
 use Rattle.dsql_wait.specs.Requests.{waits}
 use Rattle.dsql_pool.specs.Places.{is_for}
@@ -12,11 +12,6 @@ use Rattle.dsql_history.specs.declared.event.Event.TheVariants.{Entered, Heard, 
 use Rattle.dsql_pool.specs.declared.moves.Move.TheVariants.{Lend}
 use Rattle.dsql_history_work.specs.journal.Readers.{is_empty}
 use Rattle.dsql_history.specs.Readers.Owed.{owed}
-use Rattle.dsql_history.specs.declared.work.Work.{Work}
-use Rattle.dsql_history.specs.declared.work.Work.TheVariants.{Unpin}
-use Rattle.dsql_history.specs.Readers.Works.{work}
-use Rattle.dsql_history.specs.Readers.Pins.{pin_ender}
-use Rattle.dsql_history.specs.Rules.Pinned.{kept_by}
 use Rattle.dsql_history.specs.Readers.Calls.{site, decided, told_by_others, rests_with}
 use Rattle.dsql_history.specs.Rules.Line.{due_for}
 
@@ -28,10 +23,9 @@ abbrev pub opens : Option ℕ → Option Stand
 opens None = None
 opens (Some c) = Some (Opens c)
 
--- Is true if the call waits for a connection, or until what is on its pin is over.
+-- Is true if the call waits for a connection.
 abbrev pub is_waiting : Option Stand → Bool
 is_waiting (Some Waits) = true
-is_waiting (Some (Busy k)) = true
 is_waiting _ = false
 
 -- Is true if the step under way is call n's own. It entered, the driver answered it, or it asked and was lent a
@@ -60,28 +54,15 @@ first_stand [] = None
 first_stand (it ∷ []) = it
 first_stand (it ∷ next ∷ rest) = or_else it (first_stand (next ∷ rest))
 
--- Returns where a call stands that closes a pin on connection c. What a call made there keeps the pin, or a driver call
--- is perhaps under way there.
-abbrev pub stays_with : ℕ → Option ℕ → Option Stand
-stays_with c None = Some (Sends c)
-stays_with c (Some k) = Some (Busy k)
-
--- Returns where call n stands with this work, if it closes a pin whose connection, c, isn't given back yet.
-abbrev pub lingers_on : List Event → ℕ → ℕ → Work → Option Stand
-lingers_on before c n (Unpin pin) =
-    cond ((pin_ender before pin == n) && not (c == 0)) (stays_with c (kept_by before pin)) None
-lingers_on before c n work = None
-
--- Returns where call n stands. It waits, a connection is being opened for it, its driver call is due, or what is on its
--- pin isn't over. Or it has to reply, or asks again after a refusal. It stands nowhere if it has to ask for another
--- reason, or has settled its reply itself: that follows in the same step.
+-- Returns where call n stands. It waits, a connection is being opened for it, its driver call is due, it has to reply,
+-- or it asks again after a refusal. It stands nowhere if it has to ask for another reason, or has settled its reply
+-- itself: that follows in the same step.
 abbrev pub stand : List Event → ℕ → Option Stand
 stand before n =
     first_stand
     (stands (waits n (pool before).waiting) Waits
     ∷ opens (smallest (is_for n) (pool before))
     ∷ stands (is_some (due_for before n)) (Sends (site before n))
-    ∷ lingers_on before (site before n) n (work before n)
     ∷ stands (has_to_reply before n) Replies
     ∷ stands (asks_again (tries before n)) Asks
     ∷ [])

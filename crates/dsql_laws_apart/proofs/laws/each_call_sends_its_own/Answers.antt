@@ -1,5 +1,5 @@
 use Rattle.dsql_laws_apart.proofs.Begins.{asked_for}
-use Rattle.dsql_laws_apart.proofs.Rules.{unfinished_sends, made_names, connection_uses, transaction_stands, within_comes, end_tidies, own_keeps, pin_keeps}
+use Rattle.dsql_laws_apart.proofs.Rules.{unfinished_sends, made_names, connection_uses, transaction_stands, within_comes, end_tidies, own_keeps}
 use Rattle.dsql_laws_apart.proofs.laws.each_call_sends_its_own.Goals as goal
 
 pub returns-clause-unfinished : goal.returns-clause-unfinished
@@ -25,6 +25,3 @@ returns-clause-layer c = end_tidies
 
 pub returns-clause-outside : goal.returns-clause-outside
 returns-clause-outside c = own_keeps
-
-pub returns-clause-pin : goal.returns-clause-pin
-returns-clause-pin c = pin_keeps

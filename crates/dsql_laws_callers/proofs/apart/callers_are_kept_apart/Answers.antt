@@ -1,4 +1,4 @@
-use Rattle.dsql_laws_callers.proofs.KeptApart.{uses_its_own, sends_to_its_own, owner_of_transaction, stays_inside, begins_within, sends_within, layer_comes_last}
+use Rattle.dsql_laws_callers.proofs.KeptApart.{uses_its_own, sends_to_its_own, owner_of_transaction, stays_inside, layer_comes_last}
 use Rattle.dsql_laws_callers.proofs.apart.callers_are_kept_apart.Goals as goal
 
 pub returns-clause-sender : goal.returns-clause-sender
@@ -9,12 +9,6 @@ returns-clause-transaction c = owner_of_transaction
 
 pub returns-clause-inside : goal.returns-clause-inside
 returns-clause-inside c = stays_inside
-
-pub returns-clause-within : goal.returns-clause-within
-returns-clause-within c = sends_within
-
-pub returns-clause-begun : goal.returns-clause-begun
-returns-clause-begun c = begins_within
 
 pub returns-clause-layer : goal.returns-clause-layer
 returns-clause-layer c = layer_comes_last

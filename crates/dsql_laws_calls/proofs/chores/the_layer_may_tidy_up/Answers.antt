@@ -14,4 +14,4 @@ pub returns-clause-comes : goal.returns-clause-comes
 returns-clause-comes c = tidying_comes
 
 pub returns-clause-ended : goal.returns-clause-ended
-returns-clause-ended c = λ history owner e l h layer lent no_pin due numbered. tidying_comes history owner e layer lent (unheld_once_ended history e.conn l h no_pin) due numbered
+returns-clause-ended c = λ history owner e l h layer lent due. tidying_comes history owner e layer lent (unheld_once_ended history e.conn l h) due

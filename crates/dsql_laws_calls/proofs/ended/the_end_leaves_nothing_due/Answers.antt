@@ -15,16 +15,13 @@ pub returns-clause-closed : goal.returns-clause-closed
 returns-clause-closed c = ended_closed
 
 pub returns-clause-due : goal.returns-clause-due
-returns-clause-due c = λ history n l h no_pin. none_of (due_for history n) (none_due_once_ended history n l h no_pin)
+returns-clause-due c = λ history n l h. none_of (due_for history n) (none_due_once_ended history n l h)
 
 pub returns-clause-live : goal.returns-clause-live
 returns-clause-live c = λ history n l h. let o = over_once_ended history l h in (o.live n, o.going n)
 
-pub returns-clause-pinned : goal.returns-clause-pinned
-returns-clause-pinned c = λ history p l h. let o = over_once_ended history l h in o.pinned p
-
 pub returns-clause-layer : goal.returns-clause-layer
-returns-clause-layer c = λ history e l h may no_pin. let o = over_once_ended history l h in same_number e.call_no 0 (o.layer e may no_pin)
+returns-clause-layer c = λ history e l h may. let o = over_once_ended history l h in same_number e.call_no 0 (o.layer e may)
 
 pub returns-clause-turn : goal.returns-clause-turn
 returns-clause-turn c = unheld_once_ended

@@ -1,11 +1,11 @@
-use Rattle.dsql_laws_others.proofs.Lends.{due_lent, stands_lent, waits_lent, kept_lent, in_use_lent, no_pin_lent, unfinished_lent}
+use Rattle.dsql_laws_others.proofs.Lends.{due_lent, stands_lent, waits_lent, kept_lent, unfinished_lent}
 use Rattle.dsql_laws_others.proofs.LentBeside.{used_beside, all_used}
 use Rattle.dsql_laws_others.proofs.LentOthers.{due_others}
 use Rattle.dsql_laws_others.proofs.LentStands.{itself_lent, somewhere_lent}
 use Rattle.dsql_laws_others.proofs.lending.a_lending_touches_no_other_call.Goals as goal
 
 pub returns-clause-due : goal.returns-clause-due
-returns-clause-due c = λ history conn t n owner l unfinished restless off. due_lent history conn t owner n l unfinished restless (no_pin_lent history conn t owner n l off)
+returns-clause-due c = λ history conn t n owner. due_lent history conn t owner n
 
 pub returns-clause-stands : goal.returns-clause-stands
 returns-clause-stands c = λ history conn t n owner. stands_lent history conn t owner n
@@ -14,10 +14,7 @@ pub returns-clause-waits : goal.returns-clause-waits
 returns-clause-waits c = λ history conn t n m owner. waits_lent history conn t owner n m
 
 pub returns-clause-used : goal.returns-clause-used
-returns-clause-used c = λ history conn t n owner l off. kept_lent history conn t owner n l (no_pin_lent history conn t owner n l off)
-
-pub returns-clause-in_use : goal.returns-clause-in_use
-returns-clause-in_use c = λ history conn t n owner. in_use_lent history conn t owner n
+returns-clause-used c = λ history conn t n owner. kept_lent history conn t owner n
 
 pub returns-clause-unfinished : goal.returns-clause-unfinished
 returns-clause-unfinished c = λ history conn t n owner. unfinished_lent history conn t owner n

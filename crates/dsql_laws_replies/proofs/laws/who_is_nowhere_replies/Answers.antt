@@ -3,7 +3,6 @@ use Rattle.dsql_laws_replies.proofs.EndReplies.{end_replies}
 use Rattle.dsql_laws_replies.proofs.Fetches.{fetch_replies}
 use Rattle.dsql_laws_replies.proofs.InsideReplies.{inside_replies}
 use Rattle.dsql_laws_replies.proofs.Nowhere.{nowhere_replies}
-use Rattle.dsql_laws_replies.proofs.PinReplies.{pin_replies, pinned_replies, within_replies, unpin_replies}
 use Rattle.dsql_laws_replies.proofs.laws.who_is_nowhere_replies.Goals as goal
 
 pub returns-clause-served : goal.returns-clause-served
@@ -20,15 +19,3 @@ returns-clause-fetches c = fetch_replies
 
 pub returns-clause-nowhere : goal.returns-clause-nowhere
 returns-clause-nowhere c = nowhere_replies
-
-pub returns-clause-pins : goal.returns-clause-pins
-returns-clause-pins c = pin_replies
-
-pub returns-clause-on_ended_pins : goal.returns-clause-on_ended_pins
-returns-clause-on_ended_pins c = pinned_replies
-
-pub returns-clause-in_ended_transactions : goal.returns-clause-in_ended_transactions
-returns-clause-in_ended_transactions c = within_replies
-
-pub returns-clause-unpins : goal.returns-clause-unpins
-returns-clause-unpins c = unpin_replies
